@@ -1,0 +1,2 @@
+-- Integer arithmetic.
+pub mod Arithmetic

@@ -1,0 +1,34 @@
+-- Each value of the table, computed from the definitions.
+-- Assumes nothing.
+use mathlib.Core.Path.{refl}
+use native.Mathlib.Nat.{div-eq-of-lt}
+use Rattle.words.specs.Bits.{bit}
+use Rattle.words.specs.Value.{signed, low, within, clamp, count}
+use Rattle.words.specs.Result.{advance, wrappedOf, carriedOf, saturatedOf}
+use Rattle.arithmetic.specs.Arithmetic.{addOf, addsOf, absOf, mulOf}
+use Rattle.bitwise.specs.Shift.{shaLeft, shaRight, shaOf, shOf}
+use Rattle.bitwise.specs.Leading.{run, clsOf, clzOf}
+use Rattle.compare.specs.Compare.{lessSigned}
+use Rattle.bench.specs.Starred.{IntegerValues, Starred}
+
+integer-values : IntegerValues
+unfolding bit signed low within clamp count advance wrappedOf carriedOf saturatedOf addOf addsOf absOf mulOf shaLeft shaRight shaOf shOf run clsOf clzOf lessSigned
+integer-values =
+    record {
+      add = refl;
+      adds = refl;
+      sha-word = refl;
+      sha-carry = refl;
+      sh = λ a h. div-eq-of-lt h;
+      abs-word = refl;
+      abs-overflow = refl;
+      mul-word = refl;
+      mul-overflow = refl;
+      cls = refl;
+      clz = refl;
+      lt = refl;
+      lt-u = refl;
+    }
+
+pub starred : Starred
+starred = record { integer = integer-values }

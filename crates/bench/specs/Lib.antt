@@ -1,0 +1,2 @@
+-- The proved table of bench values.
+pub mod Starred

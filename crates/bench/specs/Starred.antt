@@ -1,0 +1,28 @@
+-- Document 01's starred bench values, in its order, as statements about the definitions that the contracts cite.
+use Prim.Native.Nat.{ℕ, _^_, _<_}
+use mathlib.Core.Path.{_≡_}
+use mathlib.Core.Bool.{true, false}
+use Rattle.arithmetic.specs.Arithmetic.{addOf, addsOf, absOf, mulOf}
+use Rattle.bitwise.specs.Shift.{shaOf, shOf}
+use Rattle.bitwise.specs.Leading.{clsOf, clzOf}
+use Rattle.compare.specs.Compare.{ltOf, ltuOf}
+
+-- "Integer results". The word that is -31 as a shift count is FFFFFFE1, and that for -32 is FFFFFFE0.
+pub record IntegerValues : Type 0 where
+  pub add : addOf 0x7FFF_FFFF 1 ≡ record { word = 0x8000_0000; v = true; av = true }
+  pub adds : addsOf 0x8000_0000 0x8000_0000 ≡ record { word = 0x8000_0000; v = true; av = true }
+  pub sha-word : shaOf 0x8000_0000 0xFFFF_FFE1 .word ≡ 0xFFFF_FFFF
+  pub sha-carry : shaOf 0x8000_0000 0xFFFF_FFE1 .c ≡ false
+  pub sh : (a : ℕ) → a < 2 ^ 32 → shOf a 0xFFFF_FFE0 ≡ 0
+  pub abs-word : absOf 0x8000_0000 .word ≡ 0x8000_0000
+  pub abs-overflow : absOf 0x8000_0000 .v ≡ true
+  pub mul-word : mulOf 0x1_0000 0x1_0000 .word ≡ 0
+  pub mul-overflow : mulOf 0x1_0000 0x1_0000 .v ≡ true
+  pub cls : clsOf 0 ≡ 31
+  pub clz : clzOf 0 ≡ 32
+  pub lt : ltOf 0xFFFF_FFFF 0 ≡ 1
+  pub lt-u : ltuOf 0xFFFF_FFFF 0 ≡ 0
+
+-- the table, a field for each section of document 01
+pub record Starred : Type 0 where
+  pub integer : IntegerValues

@@ -1,0 +1,67 @@
+// Document 01's bench values, computed and printed. The file stdout has the values that the document gives.
+
+use integer::Integer;
+use integer::compute;
+use libc::STDOUT_FILENO;
+ghost use Rattle.bench.specs.Starred.{Starred};
+
+fn main() {
+    starred();
+    integer_values();
+}
+
+// The table of the starred values, proved of the definitions that the contracts cite.
+fn starred()
+    ensures { λ _. ⌜ Starred ⌝ }
+{}
+
+fn integer_values() {
+    text(b"operation first second: result C V SV AV SAV\n");
+    row(b"ADD", Integer::Add, 0x7FFF_FFFF, 1);
+    row(b"ADDS", Integer::Adds, 0x8000_0000, 0x8000_0000);
+    // by -31
+    row(b"SHA", Integer::Sha, 0x8000_0000, 0xFFFF_FFE1);
+    // by -32
+    row(b"SH", Integer::Sh, 0xFFFF_FFFF, 0xFFFF_FFE0);
+    row(b"ABS", Integer::Abs, 0x8000_0000, 0);
+    row(b"MUL", Integer::Mul, 0x1_0000, 0x1_0000);
+    row(b"CLS", Integer::Cls, 0, 0);
+    row(b"CLZ", Integer::Clz, 0, 0);
+    row(b"LT", Integer::Lt, 0xFFFF_FFFF, 0);
+    row(b"LT.U", Integer::LtU, 0xFFFF_FFFF, 0);
+}
+
+// An operation from a PSW of 0.
+fn row(name: &[u8], op: Integer, a: u32, b: u32) {
+    text(name);
+    text(b" ");
+    word(a);
+    text(b" ");
+    word(b);
+    text(b": ");
+    let r = compute(op, a, b, 0);
+    word(r.word);
+    let psw = r.psw;
+    flag(psw / 0x8000_0000);
+    flag(psw / 0x4000_0000);
+    flag(psw / 0x2000_0000);
+    flag(psw / 0x1000_0000);
+    flag(psw / 0x0800_0000);
+    text(b"\n");
+}
+
+fn text(s: &[u8]) {
+    io::write_all(STDOUT_FILENO, s);
+}
+
+fn word(w: u32) {
+    io::write_all(STDOUT_FILENO, &text::hex(w));
+}
+
+fn flag(n: u32) {
+    if n % 2 == 1 {
+        text(b" 1");
+    } else {
+        text(b" 0");
+    }
+}

@@ -1,0 +1,4 @@
+-- Operations on the bits of words.
+pub mod Logical
+pub mod Leading
+pub mod Shift

@@ -1,0 +1,2 @@
+-- Comparisons.
+pub mod Compare

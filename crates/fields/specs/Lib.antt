@@ -1,0 +1,2 @@
+-- The fields of the core registers.
+pub mod Psw

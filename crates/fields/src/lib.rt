@@ -1,0 +1,3 @@
+// The fields of the core registers, each named once with its bits.
+
+pub mod psw;

@@ -1,0 +1,3 @@
+-- Laws of the dispatch.
+pub mod Arms
+pub mod Keys

@@ -1,0 +1,2 @@
+-- The integer operations.
+pub mod Integer

@@ -1,0 +1,2 @@
+-- The exported integer operations.
+pub mod Export

@@ -1,0 +1,7 @@
+-- Laws that the proofs of several functions cite.
+pub mod Integers
+pub mod Exact
+pub mod Values
+pub mod Counts
+pub mod Masks
+pub mod Results

@@ -1,0 +1,4 @@
+-- Words of 32 bits.
+pub mod Bits
+pub mod Value
+pub mod Result

@@ -1,0 +1,3 @@
+//! The proved libraries as Rust functions, for the tests.
+
+pub mod integer;
