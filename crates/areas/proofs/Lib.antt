@@ -1,0 +1,3 @@
+-- Laws of areas.
+pub mod Places
+pub mod Parts

@@ -1,0 +1,4 @@
+-- Context save areas.
+pub mod Link
+pub mod Place
+pub mod Area

@@ -1,0 +1,3 @@
+-- The lists of areas.
+pub mod Walk
+pub mod Lists

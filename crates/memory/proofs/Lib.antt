@@ -1,0 +1,2 @@
+-- Laws of words in memory.
+pub mod Words

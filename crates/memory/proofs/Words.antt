@@ -1,0 +1,119 @@
+-- The laws of words in a list of bytes: lengths, what is read back, what stands elsewhere.
+-- Assumes nothing.
+use mathlib.Core.Path.{_≡_, refl, ap, ap₂, subst, _∙_}
+use mathlib.Core.Logic.{_≢_, _⊎_, inl, inr, ⊎-elim}
+use mathlib.Core.List.{List, _∷_}
+use Prim.Native.Nat.{ℕ, zero, suc, _+_, _*_, _/_, _%_, _^_, _≤_, _<_}
+use native.Mathlib.Omega.{arith}
+use lib.ListN.{length, getD, set, length-set}
+use lib.Seq.{getD-set-same, getD-set-other}
+use native.Mathlib.Nat.{zero-add, lt-of-not-le}
+use native.Mathlib.Decide.{decLe}
+use native.Mathlib.Numerals.{add-one}
+use Rattle.memory.specs.Word.{wordAt, putWord, putWords, wordsAt}
+
+pub putWord-length : (s : List ℕ) (i w : ℕ) → length (putWord s i w) ≡ length s
+unfolding putWord
+putWord-length s i w = simp length-set
+
+module _ (s : List ℕ) (i w : ℕ) where
+  abbrev s1 : List ℕ
+  s1 = set s i (w % 256)
+
+  abbrev s2 : List ℕ
+  s2 = set s1 (i + 1) (w / 256 % 256)
+
+  abbrev s3 : List ℕ
+  s3 = set s2 (i + 2) (w / 65536 % 256)
+
+  -- a byte outside the word
+  pub putWord-byte : (k : ℕ) → (k < i) ⊎ (i + 4 ≤ k) → getD (putWord s i w) k 0 ≡ getD s k 0
+  unfolding putWord
+  putWord-byte k h =
+      let ne : (d : ℕ) → d < 4 → k ≢ i + d = λ d hd e. ⊎-elim (λ x. omega arith) (λ x. omega arith) h in
+      let ne0 : k ≢ i = λ e. ⊎-elim (λ x. omega arith) (λ x. omega arith) h in
+      getD-set-other s3 (i + 3) k (w / 16777216) 0 (ne 3 (omega arith))
+      ∙ getD-set-other s2 (i + 2) k (w / 65536 % 256) 0 (ne 2 (omega arith))
+      ∙ getD-set-other s1 (i + 1) k (w / 256 % 256) 0 (ne 1 (omega arith))
+      ∙ getD-set-other s i k (w % 256) 0 ne0
+
+  -- a word elsewhere is unchanged
+  pub putWord-other : (j : ℕ) → (j + 4 ≤ i) ⊎ (i + 4 ≤ j) → wordAt (putWord s i w) j ≡ wordAt s j
+  unfolding wordAt
+  putWord-other j h =
+      let at : (d : ℕ) → d < 4 → (j + d < i) ⊎ (i + 4 ≤ j + d) = λ d hd. ⊎-elim (λ x. inl (omega arith)) (λ x. inr (omega arith)) h in
+      let at0 : (j < i) ⊎ (i + 4 ≤ j) = ⊎-elim (λ x. inl (omega arith)) (λ x. inr x) h in
+      omega (arith, putWord-byte j at0, putWord-byte (j + 1) (at 1 (omega arith)), putWord-byte (j + 2) (at 2 (omega arith)), putWord-byte (j + 3) (at 3 (omega arith)))
+
+  -- the word written is read back
+  pub putWord-same : i + 4 ≤ length s → w < 2 ^ 32 → wordAt (putWord s i w) i ≡ w
+  unfolding wordAt putWord
+  putWord-same h hw =
+      let l1 : length s1 ≡ length s = simp length-set in
+      let l2 : length s2 ≡ length s = simp length-set in
+      let l3 : length s3 ≡ length s = simp length-set in
+      let e3 : getD (putWord s i w) (i + 3) 0 ≡ w / 16777216 = getD-set-same s3 (i + 3) (w / 16777216) 0 (omega arith) in
+      let e2 : getD (putWord s i w) (i + 2) 0 ≡ w / 65536 % 256 =
+      getD-set-other s3 (i + 3) (i + 2) (w / 16777216) 0 (λ e. omega arith) ∙ getD-set-same s2 (i + 2) (w / 65536 % 256) 0 (omega arith) in
+      let e1 : getD (putWord s i w) (i + 1) 0 ≡ w / 256 % 256 =
+      getD-set-other s3 (i + 3) (i + 1) (w / 16777216) 0 (λ e. omega arith)
+      ∙ getD-set-other s2 (i + 2) (i + 1) (w / 65536 % 256) 0 (λ e. omega arith)
+      ∙ getD-set-same s1 (i + 1) (w / 256 % 256) 0 (omega arith) in
+      let e0 : getD (putWord s i w) i 0 ≡ w % 256 =
+      getD-set-other s3 (i + 3) i (w / 16777216) 0 (λ e. omega arith)
+      ∙ getD-set-other s2 (i + 2) i (w / 65536 % 256) 0 (λ e. omega arith)
+      ∙ getD-set-other s1 (i + 1) i (w / 256 % 256) 0 (λ e. omega arith)
+      ∙ getD-set-same s i (w % 256) 0 (omega arith) in
+      omega arith
+
+pub putWords-length : (s : List ℕ) (i : ℕ) (ws : List ℕ) (n : ℕ) → length (putWords s i ws n) ≡ length s
+unfolding putWords
+putWords-length s i ws zero = refl
+putWords-length s i ws (suc n) = putWord-length (putWords s i ws n) (i + 4 * n) (getD ws n 0) ∙ putWords-length s i ws n
+
+pub putWords-suc : (s : List ℕ) (i : ℕ) (ws : List ℕ) (n : ℕ) → putWords s i ws (n + 1) ≡ putWord (putWords s i ws n) (i + 4 * n) (getD ws n 0)
+unfolding putWords
+putWords-suc s i ws n = rw add-one
+
+-- a turn of the loop that writes words
+pub put-turn : (s ws : List ℕ) (n : ℕ) {a last : List ℕ} → a ≡ putWords s 0 ws n → last ≡ putWord a (4 * n) (getD ws n 0) → last ≡ putWords s 0 ws (n + 1)
+put-turn s ws n e f = cc (putWords-suc s 0 ws n, zero-add (4 * n))
+
+-- ---- a run of words: what is read back, and what stands elsewhere
+pub putWords-byte : (s : List ℕ) (i : ℕ) (ws : List ℕ) (n k : ℕ) → (k < i) ⊎ (i + 4 * n ≤ k) → getD (putWords s i ws n) k 0 ≡ getD s k 0
+unfolding putWords
+putWords-byte s i ws zero k h = refl
+putWords-byte s i ws (suc n) k h =
+    putWord-byte (putWords s i ws n) (i + 4 * n) (getD ws n 0) k (⊎-elim (λ x. inl (omega arith)) (λ x. inr (omega arith)) h)
+    ∙ putWords-byte s i ws n k (⊎-elim (λ x. inl x) (λ x. inr (omega arith)) h)
+
+pub putWords-at : (s : List ℕ) (i : ℕ) (ws : List ℕ) (n k : ℕ) → i + 4 * n ≤ length s → k < n → ((m : ℕ) → getD ws m 0 < 2 ^ 32) → wordAt (putWords s i ws n) (i + 4 * k) ≡ getD ws k 0
+unfolding putWords
+putWords-at s i ws zero k g h f = absurd (omega arith)
+putWords-at s i ws (suc n) k g h f = either (decLe n k) (λ q. putWords-at s i ws n k (omega arith) q f)
+  where
+    either : Dec (n ≤ k) → (k < n → wordAt (putWords s i ws n) (i + 4 * k) ≡ getD ws k 0) → wordAt (putWords s i ws (suc n)) (i + 4 * k) ≡ getD ws k 0
+    either (yes p) r =
+        let e : n ≡ k = omega arith in
+        let t = putWord-same (putWords s i ws n) (i + 4 * n) (getD ws n 0) (omega (arith, putWords-length s i ws n)) (f n) in
+        subst (λ (m : ℕ). wordAt (putWords s i ws (suc n)) (i + 4 * m) ≡ getD ws m 0) e t
+    either (no p) r =
+        let q : k < n = lt-of-not-le p in
+        putWord-other (putWords s i ws n) (i + 4 * n) (getD ws n 0) (i + 4 * k) (inl (omega arith)) ∙ r q
+
+-- ---- words are read from their bytes alone
+pub wordAt-same : (s t : List ℕ) (i : ℕ) → ((k : ℕ) → i ≤ k → k < i + 4 → getD t k 0 ≡ getD s k 0) → wordAt t i ≡ wordAt s i
+unfolding wordAt
+wordAt-same s t i h =
+    omega (arith, h i (omega arith) (omega arith), h (i + 1) (omega arith) (omega arith), h (i + 2) (omega arith) (omega arith), h (i + 3) (omega arith) (omega arith))
+
+pub wordsAt-same : (s t : List ℕ) (n i : ℕ) → ((k : ℕ) → i ≤ k → k < i + 4 * n → getD t k 0 ≡ getD s k 0) → wordsAt t i n ≡ wordsAt s i n
+unfolding wordsAt
+wordsAt-same s t zero i h = refl
+wordsAt-same s t (suc n) i h =
+    ap₂ _∷_ (wordAt-same s t i (λ k p q. h k p (omega arith))) (wordsAt-same s t n (i + 4) (λ k p q. h k (omega arith) (omega arith)))
+
+pub wordsAt-length : (s : List ℕ) (i n : ℕ) → length (wordsAt s i n) ≡ n
+unfolding wordsAt
+wordsAt-length s i zero = refl
+wordsAt-length s i (suc n) = ap suc (wordsAt-length s (i + 4) n)

@@ -1,0 +1,3 @@
+-- Lent memory and its words.
+pub mod Word
+pub mod Memory
