@@ -1,7 +1,7 @@
 //! The integer operations, by document 01's numbers.
 
 extern "C" {
-    fn deqbaryn_integer(number: u32, a: u32, b: u32, psw: u32) -> u64;
+    fn deqbaryn_integer(number: u8, a: u32, b: u32, psw: u32) -> u64;
 }
 
 /// Document 01's names of operations 1 to 38, in its order.
@@ -14,11 +14,11 @@ pub const NAMES: [&str; 38] = [
 /// The result word and PSW afterwards.
 pub fn compute(name: &str, a: u32, b: u32, psw: u32) -> (u32, u32) {
     let place = NAMES.iter().position(|n| *n == name).unwrap_or_else(|| panic!("no operation {name}"));
-    let answer = unsafe { deqbaryn_integer(place as u32 + 1, a, b, psw) };
+    let answer = unsafe { deqbaryn_integer(place as u8 + 1, a, b, psw) };
     (answer as u32, (answer >> 32) as u32)
 }
 
 /// The answer for a number, as the library gives it.
-pub fn answer(number: u32, a: u32, b: u32, psw: u32) -> u64 {
+pub fn answer(number: u8, a: u32, b: u32, psw: u32) -> u64 {
     unsafe { deqbaryn_integer(number, a, b, psw) }
 }

@@ -91,7 +91,7 @@ fn each_operation_with_lines_is_named() {
 
 #[test]
 fn other_numbers_are_answered_by_zero() {
-    for number in [0, 39, 78, 79, u32::MAX] {
+    for number in [0, 39, 78, 79, u8::MAX] {
         assert_eq!(answer(number, 5, 7, 0xB80), 0);
     }
     assert_eq!(answer(38, 5, 7, 0xB80), 0xB80_0000_0007);

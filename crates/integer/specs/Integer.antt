@@ -1,7 +1,5 @@
 -- What the integer operations answer: the word for D[c], and PSW. In document 01's order, from 1.
 use Prim.Native.Nat.{ℕ}
-use mathlib.Core.List.{List, [], _∷_}
-use lib.ListN.{getD}
 use Rattle.words.specs.declared.result.Flagged.{Flagged}
 use Rattle.words.specs.declared.result.Carried.{Carried}
 use Rattle.fields.specs.Psw.{PSW·C, flaggedOf, overflowedOf}
@@ -13,15 +11,6 @@ use Rattle.compare.specs.Compare.{minOf, minuOf, maxOf, maxuOf, eqOf, neOf, ltO
 use Rattle.integer.specs.declared.Computed.{Computed}
 use Rattle.integer.specs.declared.Integer.{Integer}
 use Rattle.integer.specs.declared.Integer.the-variants.{Add, Sub, Rsub, Addx, Addc, Subx, Subc, Adds, AddsU, Subs, SubsU, Mul, And, Or, Xor, Nand, Nor, Xnor, Andn, Orn, Sh, Sha, Min, MinU, Max, MaxU, Abs, Absdif, Eq, Ne, Lt, LtU, Ge, GeU, Clz, Clo, Cls, Mov}
-
--- document 01's order, in which ADD has number 1
-abbrev pub operations : List Integer
-operations =
-    Add ∷ Sub ∷ Rsub ∷ Addx ∷ Addc ∷ Subx ∷ Subc ∷ Adds ∷ AddsU ∷ Subs ∷ SubsU ∷ Mul ∷ And ∷ Or ∷ Xor ∷ Nand ∷ Nor ∷ Xnor ∷ Andn ∷ Orn ∷ Sh ∷ Sha ∷ Min ∷ MinU ∷ Max ∷ MaxU ∷ Abs ∷ Absdif ∷ Eq ∷ Ne ∷ Lt ∷ LtU ∷ Ge ∷ GeU ∷ Clz ∷ Clo ∷ Cls ∷ Mov ∷ []
-
--- the operation at place k, from 0; ADD past the end
-unfoldable pub operationOf : ℕ → Integer
-operationOf k = getD operations k Add
 
 -- a result that sets V, SV, AV and SAV
 abbrev pub flagged : Flagged → ℕ → Computed

@@ -13,7 +13,7 @@ use fields::psw;
 use words::result::Carried;
 use words::result::Flagged;
 ghost use mathlib.Core.Path.{_≡_};
-ghost use Rattle.integer.specs.Integer.{operationOf, computeOf, flagged, carried, plain};
+ghost use Rattle.integer.specs.Integer.{computeOf, flagged, carried, plain};
 
 // The operations in document 01's order.
 pub enum Integer {
@@ -55,53 +55,6 @@ pub enum Integer {
     Clo,
     Cls,
     Mov,
-}
-
-// The operation at place k of the order, and ADD past its end.
-pub fn operation(k: u32) -> Integer
-    ensures { λ r. ⌜ r ≡ operationOf k ⌝ }
-{
-    match k {
-        0 => Integer::Add,
-        1 => Integer::Sub,
-        2 => Integer::Rsub,
-        3 => Integer::Addx,
-        4 => Integer::Addc,
-        5 => Integer::Subx,
-        6 => Integer::Subc,
-        7 => Integer::Adds,
-        8 => Integer::AddsU,
-        9 => Integer::Subs,
-        10 => Integer::SubsU,
-        11 => Integer::Mul,
-        12 => Integer::And,
-        13 => Integer::Or,
-        14 => Integer::Xor,
-        15 => Integer::Nand,
-        16 => Integer::Nor,
-        17 => Integer::Xnor,
-        18 => Integer::Andn,
-        19 => Integer::Orn,
-        20 => Integer::Sh,
-        21 => Integer::Sha,
-        22 => Integer::Min,
-        23 => Integer::MinU,
-        24 => Integer::Max,
-        25 => Integer::MaxU,
-        26 => Integer::Abs,
-        27 => Integer::Absdif,
-        28 => Integer::Eq,
-        29 => Integer::Ne,
-        30 => Integer::Lt,
-        31 => Integer::LtU,
-        32 => Integer::Ge,
-        33 => Integer::GeU,
-        34 => Integer::Clz,
-        35 => Integer::Clo,
-        36 => Integer::Cls,
-        37 => Integer::Mov,
-        _ => Integer::Add,
-    }
 }
 
 // The word that goes to D[c], and PSW afterwards.

@@ -1,14 +1,25 @@
 -- An integer operation by its number, with both its answers in one number.
-use Prim.Native.Nat.{ℕ, _+_, _-_, _*_, _^_}
-use lib.Dec.{ltb}
-use mathlib.Core.Bool.{cond, _||_}
-use Rattle.integer.specs.Integer.{operationOf, computeOf}
+use Prim.Native.Nat.{ℕ, _+_, _*_, _^_}
+use Rattle.integer.specs.Integer.{computeOf}
 use Rattle.integer.specs.declared.Computed.{Computed}
+use Rattle.operations.specs.Operations.{operationOf}
+use Rattle.operations.specs.declared.Operation.{Operation}
+use Rattle.operations.specs.declared.Operation.the-variants.{Nop, Integer, Move, Load, Store, Jump, Context, System}
 
 -- PSW above the word
-abbrev pub packed : Computed → ℕ
-packed r = r .psw * 2 ^ 32 + r .word
+abbrev pub packedOf : Computed → ℕ
+packedOf r = r .psw * 2 ^ 32 + r .word
 
--- 1 is ADD, 38 MOV; 0 for any other number
+-- 0 for an operation that is no integer one
+abbrev pub exportBy : Operation → ℕ → ℕ → ℕ → ℕ
+exportBy Nop a b psw = 0
+exportBy (Integer op) a b psw = packedOf (computeOf op a b psw)
+exportBy (Move op) a b psw = 0
+exportBy (Load op) a b psw = 0
+exportBy (Store op) a b psw = 0
+exportBy (Jump op) a b psw = 0
+exportBy (Context op) a b psw = 0
+exportBy (System op) a b psw = 0
+
 unfoldable pub exportOf : ℕ → ℕ → ℕ → ℕ → ℕ
-exportOf n a b psw = cond (ltb n 1 || ltb 38 n) 0 (packed (computeOf (operationOf (n - 1)) a b psw))
+exportOf n a b psw = exportBy (operationOf n) a b psw

@@ -1,21 +1,31 @@
 // The integer operations for the tests: one exported function on numbers.
 
+use integer::Computed;
 use integer::compute;
-use integer::operation;
+use operations::Operation;
+use operations::decode;
 ghost use mathlib.Core.Path.{_≡_};
-ghost use Rattle.integer_export.specs.Export.{exportOf};
+ghost use Rattle.integer_export.specs.Export.{packedOf, exportOf};
 
 // Operation `number` of document 01 on the operands a and b: PSW afterwards in the high word of the answer, the result in the low one. 0 for a number that is no integer operation.
 #[no_mangle]
-pub extern "C" fn deqbaryn_integer(number: u32, a: u32, b: u32, psw: u32) -> u64
+pub extern "C" fn deqbaryn_integer(number: u8, a: u32, b: u32, psw: u32) -> u64
     ensures { λ r. ⌜ r ≡ exportOf number a b psw ⌝ }
 {
-    if number < 1 {
-        return 0;
+    match decode(number) {
+        Operation::Integer(op) => packed(compute(op, a, b, psw)),
+        Operation::Nop => 0,
+        Operation::Move(_) => 0,
+        Operation::Load(_) => 0,
+        Operation::Store(_) => 0,
+        Operation::Jump(_) => 0,
+        Operation::Context(_) => 0,
+        Operation::System(_) => 0,
     }
-    if 38 < number {
-        return 0;
-    }
-    let r = compute(operation(number - 1), a, b, psw);
+}
+
+fn packed(r: Computed) -> u64
+    ensures { λ w. ⌜ w ≡ packedOf r ⌝ }
+{
     r.psw as u64 * 0x1_0000_0000 + r.word as u64
 }

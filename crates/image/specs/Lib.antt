@@ -1,0 +1,5 @@
+-- The image.
+pub mod Table
+pub mod Records
+pub mod Rules
+pub mod Fetch

@@ -1,0 +1,5 @@
+// The image: its table of contents, its records, and the record at a PC.
+
+pub mod fetch;
+pub mod records;
+pub mod table;

@@ -1,0 +1,2 @@
+-- Laws of the decoding.
+pub mod Keys
