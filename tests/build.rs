@@ -3,6 +3,8 @@ fn main() {
     let root = std::env::var("CARGO_MANIFEST_DIR").unwrap();
     let libraries = format!("{root}/../target/staticlib");
     println!("cargo:rustc-link-search=native={libraries}");
-    println!("cargo:rustc-link-lib=static=integer_export");
-    println!("cargo:rerun-if-changed={libraries}/libinteger_export.a");
+    for name in ["integer_export", "inputs_export"] {
+        println!("cargo:rustc-link-lib=static={name}");
+        println!("cargo:rerun-if-changed={libraries}/lib{name}.a");
+    }
 }

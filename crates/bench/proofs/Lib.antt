@@ -1,2 +1,3 @@
--- The proof of the table.
+-- The proofs of the table and of the accepted inputs.
 pub mod Values
+pub mod Inputs

@@ -31,4 +31,4 @@ integer-values =
     }
 
 pub starred : Starred
-starred = record { integer = integer-values }
+starred = record { integer = integer-values; links = record { address = refl } }

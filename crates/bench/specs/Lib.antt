@@ -1,2 +1,3 @@
--- The proved table of bench values.
+-- The proved table of bench values, and inputs that are accepted.
 pub mod Starred
+pub mod Accepted

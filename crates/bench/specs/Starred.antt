@@ -6,6 +6,7 @@ use Rattle.arithmetic.specs.Arithmetic.{addOf, addsOf, absOf, mulOf}
 use Rattle.bitwise.specs.Shift.{shaOf, shOf}
 use Rattle.bitwise.specs.Leading.{clsOf, clzOf}
 use Rattle.compare.specs.Compare.{ltOf, ltuOf}
+use Rattle.areas.specs.Link.{addressOf}
 
 -- "Integer results". The word that is -31 as a shift count is FFFFFFE1, and that for -32 is FFFFFFE0.
 pub record IntegerValues : Type 0 where
@@ -23,6 +24,11 @@ pub record IntegerValues : Type 0 where
   pub lt : ltOf 0xFFFF_FFFF 0 ≡ 1
   pub lt-u : ltuOf 0xFFFF_FFFF 0 ≡ 0
 
+-- "Areas and lists"
+pub record LinkValues : Type 0 where
+  pub address : addressOf (record { 0 = 0xD_0001 }) ≡ record { 0 = 0xD000_0040 }
+
 -- the table, a field for each section of document 01
 pub record Starred : Type 0 where
   pub integer : IntegerValues
+  pub links : LinkValues

@@ -1,19 +1,38 @@
 // Document 01's bench values, computed and printed. The file stdout has the values that the document gives.
 
+use areas::link::Link;
+use areas::link::address_of;
 use integer::Integer;
 use integer::compute;
 use libc::STDOUT_FILENO;
 ghost use Rattle.bench.specs.Starred.{Starred};
+ghost use Rattle.bench.specs.Accepted.{PoolAccepted};
 
 fn main() {
     starred();
+    accepted();
     integer_values();
+    link_values();
 }
 
 // The table of the starred values, proved of the definitions that the contracts cite.
 fn starred()
     ensures { λ _. ⌜ Starred ⌝ }
 {}
+
+// Document 01's image of CALL and RET is accepted with the pool walk's window and state.
+fn accepted()
+    ensures { λ _. ⌜ PoolAccepted ⌝ }
+{}
+
+fn link_values() {
+    text(b"link: address\n");
+    word(0xD_0001);
+    text(b": ");
+    let a = address_of(Link(0xD_0001));
+    word(a.0);
+    text(b"\n");
+}
 
 fn integer_values() {
     text(b"operation first second: result C V SV AV SAV\n");

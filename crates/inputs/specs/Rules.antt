@@ -1,0 +1,59 @@
+-- The rules as plain statements, and what each verdict says: the first rule at fault, those before it holding.
+use Prim.Native.Nat.{ℕ, _+_, _/_, _%_, _^_, _≤_}
+use mathlib.Core.Path.{_≡_}
+use mathlib.Core.List.{List}
+use lib.ListN.{length}
+use Rattle.memory.specs.Memory.{Memory}
+use Rattle.lists.specs.Lists.{Sound, ListsCome}
+use Rattle.lists.specs.declared.ListEnd.the-variants as list
+use Rattle.image.specs.Rules.{ImageRight, TableFault, RecordFault}
+use Rattle.inputs.specs.declared.verdict.Verdict.{Verdict}
+use Rattle.inputs.specs.declared.verdict.Verdict.the-variants.{Accepted, Refused}
+use Rattle.inputs.specs.declared.verdict.Refusal.the-variants.{Window, Table, Record, OddPc, LinkOutside, MetAgain}
+
+-- rule 1. A segment is all addresses with the same bits 31:28
+pub record WindowRight (base len : ℕ) : Type 0 where
+  pub aligned : base % 64 ≡ 0
+  pub areas : len % 64 ≡ 0
+  pub some : 1 ≤ len
+  pub most : len ≤ 0x1_0000
+  pub below-E : base / 2 ^ 28 ≤ 13
+  pub one-segment : base % 2 ^ 28 + len ≤ 2 ^ 28
+
+abbrev pub WindowOf : Memory → Type 0
+WindowOf m = WindowRight (m .base) (length (m .bytes))
+
+-- rule 4
+abbrev pub Even : ℕ → Type 0
+Even pc = pc % 2 ≡ 0
+
+-- rules 1 to 4 hold
+pub record Ready (m : Memory) (img : List ℕ) (pc : ℕ) : Type 0 where
+  pub window : WindowOf m
+  pub image : ImageRight img
+  pub even : Even pc
+
+-- what a verdict says of the rules 1 to 4
+abbrev pub StepSays : Memory → List ℕ → ℕ → Verdict → Type 0
+StepSays m img pc Accepted = Ready m img pc
+StepSays m img pc (Refused Window) = WindowOf m → ⊥
+StepSays m img pc (Refused (Table entry)) = WindowOf m × TableFault img entry
+StepSays m img pc (Refused (Record index)) = WindowOf m × RecordFault img index
+StepSays m img pc (Refused OddPc) = WindowOf m × ImageRight img × (Even pc → ⊥)
+StepSays m img pc (Refused LinkOutside) = ⊥
+StepSays m img pc (Refused MetAgain) = ⊥
+
+-- and of all six
+abbrev pub StartSays : Memory → List ℕ → ℕ → ℕ → ℕ → Verdict → Type 0
+StartSays m img pc fcx pcxi Accepted = Ready m img pc × Sound m fcx pcxi
+StartSays m img pc fcx pcxi (Refused Window) = WindowOf m → ⊥
+StartSays m img pc fcx pcxi (Refused (Table entry)) = WindowOf m × TableFault img entry
+StartSays m img pc fcx pcxi (Refused (Record index)) = WindowOf m × RecordFault img index
+StartSays m img pc fcx pcxi (Refused OddPc) = WindowOf m × ImageRight img × (Even pc → ⊥)
+StartSays m img pc fcx pcxi (Refused LinkOutside) = Ready m img pc × ListsCome m fcx pcxi list.LinkOutside
+StartSays m img pc fcx pcxi (Refused MetAgain) = Ready m img pc × ListsCome m fcx pcxi list.MetAgain
+
+-- a verdict is what the rules say, and no other is: each number exactly where its rule is the first at fault, acceptance exactly where all hold
+pub record Exactly (Says : Verdict → Type 0) (r : Verdict) : Type 0 where
+  pub says : Says r
+  pub only : (v : Verdict) → Says v → v ≡ r

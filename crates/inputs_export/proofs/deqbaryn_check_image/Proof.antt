@@ -1,0 +1,10 @@
+-- `inputs_export::deqbaryn_check_image` meets its contract. Assumes nothing.
+use borrow.Author.Needs.{needs}
+use Rattle.inputs_export.proofs.deqbaryn_check_image.Statement.{statement}
+use Rattle.inputs_export.proofs.deqbaryn_check_image.Tie as tie
+
+returns : tie.Need-returns
+returns c = rw (← c .before .check-image .ensures .0) (c .packed .ensures)
+
+pub deqbaryn-check-image-spec : {M : Type 1} → statement M
+deqbaryn-check-image-spec = tie.close (tie.spec (λ c κs. search needs) (λ c κs. search needs) returns)

@@ -1,0 +1,2 @@
+-- The exported checks.
+pub mod Export

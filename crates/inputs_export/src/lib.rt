@@ -1,0 +1,87 @@
+// The checks of the inputs and the fetch for the tests: exported functions on numbers and byte slices.
+
+use areas::link::Address;
+use image::fetch::Fetched;
+use image::fetch::fetch;
+use inputs::checks;
+use inputs::verdict::Verdict;
+use inputs::verdict::fault;
+use inputs::verdict::number;
+ghost use mathlib.Core.Path.{_≡_};
+ghost use Rattle.memory.specs.Memory.{memory};
+ghost use Rattle.image.specs.Records.{ImageHolds};
+ghost use Rattle.inputs.specs.Checks.{imageVerdict, listsVerdict, stepVerdict, startVerdict};
+ghost use Rattle.inputs_export.specs.Export.{verdictOf, fetchedOf, exportedFetch};
+
+// 0 for accepted; else the rule's number, and its place in the high word.
+fn packed(v: Verdict) -> u64
+    ensures { λ r. ⌜ r ≡ verdictOf v ⌝ }
+{
+    match v {
+        Verdict::Accepted => 0,
+        Verdict::Refused(r) => fault(r) as u64 * 0x1_0000_0000 + number(r) as u64,
+    }
+}
+
+#[no_mangle]
+pub extern "C" fn deqbaryn_check_image(image: &[u8]) -> u64
+    ensures { λ r. ⌜ r ≡ verdictOf (imageVerdict (now (image .entry))) ⌝ }
+{
+    packed(checks::check_image(image))
+}
+
+#[no_mangle]
+pub extern "C" fn deqbaryn_check_lists(base: u32, window: &[u8], fcx: u32, pcxi: u32) -> u64
+    ensures { λ r. ⌜ r ≡ verdictOf (listsVerdict (memory base (now (window .entry))) fcx pcxi) ⌝ }
+{
+    packed(checks::check_lists(Address(base), window, fcx, pcxi))
+}
+
+#[no_mangle]
+pub extern "C" fn deqbaryn_try_step(base: u32, window: &[u8], image: &[u8], pc: u32) -> u64
+    ensures { λ r. ⌜ r ≡ verdictOf (stepVerdict (memory base (now (window .entry))) (now (image .entry)) pc) ⌝ }
+{
+    packed(checks::try_step(Address(base), window, image, pc))
+}
+
+#[no_mangle]
+pub extern "C" fn deqbaryn_try_start(
+    base: u32,
+    window: &[u8],
+    image: &[u8],
+    pc: u32,
+    fcx: u32,
+    pcxi: u32,
+) -> u64
+    ensures { λ r. ⌜ r ≡ verdictOf (startVerdict (memory base (now (window .entry))) (now (image .entry)) pc fcx pcxi) ⌝ }
+{
+    packed(checks::try_start(Address(base), window, image, pc, fcx, pcxi))
+}
+
+// The record at pc of an accepted image: 1, c, a, b from the lowest byte on, and the immediate in the high word. 0 where no record begins there, or the image is refused.
+#[no_mangle]
+pub extern "C" fn deqbaryn_fetch(image: &[u8], pc: u32) -> u64
+    ensures { λ r. ⌜ r ≡ exportedFetch (now (image .entry)) pc ⌝ }
+{
+    match image::records::check_image(image) {
+        image::records::ImageCheck::Holds => fetched(image, pc),
+        image::records::ImageCheck::Table(_) => 0,
+        image::records::ImageCheck::Record(_) => 0,
+    }
+}
+
+fn fetched(image: &[u8], pc: u32) -> u64
+    requires { ⌜ ImageHolds (now image) ⌝ }
+    ensures { λ r. ⌜ r ≡ fetchedOf (now (image .entry)) pc ⌝ }
+{
+    match fetch(image, pc) {
+        Fetched::Nothing => 0,
+        Fetched::Found(i) => {
+            i.imm as u64 * 0x1_0000_0000
+                + i.b as u64 * 0x100_0000
+                + i.a as u64 * 0x1_0000
+                + i.c as u64 * 0x100
+                + 1
+        }
+    }
+}

@@ -1,0 +1,70 @@
+//! The proved code beside plain Rust, in one run: the best of several rounds of each, turn about.
+
+use deqbaryn_tests::inputs;
+use deqbaryn_tests::model::checks;
+use deqbaryn_tests::model::image::{build, Body, Record};
+use std::hint::black_box;
+use std::time::{Duration, Instant};
+
+const ROUNDS: usize = 41;
+
+/// The shortest time of `calls` calls over the rounds, for each of the two.
+fn shortest<R>(calls: u32, mut proved: impl FnMut() -> R, mut plain: impl FnMut() -> R) -> [Duration; 2] {
+    let mut best = [Duration::MAX; 2];
+    for _ in 0..ROUNDS {
+        let sides: [&mut dyn FnMut() -> R; 2] = [&mut proved, &mut plain];
+        for (side, shortest) in sides.into_iter().zip(&mut best) {
+            let start = Instant::now();
+            for _ in 0..calls {
+                black_box(side());
+            }
+            *shortest = (*shortest).min(start.elapsed());
+        }
+    }
+    best
+}
+
+fn line(what: &str, calls: u32, unit: u32, [proved, plain]: [Duration; 2]) {
+    let each = |d: Duration| d.as_secs_f64() * 1e9 / calls as f64 / unit as f64;
+    println!("{what:<40} {:>9.3} {:>9.3} {:>6.2}", each(proved), each(plain), each(proved) / each(plain));
+}
+
+/// An image of n bodies, with every operation in turn.
+fn image(bodies: usize, records: usize) -> Vec<u8> {
+    let record = |k: usize| Record { op: (k % 79) as u8, c: (k % 16) as u8, a: (k / 16 % 16) as u8, b: (k % 13) as u8, imm: k as u32 };
+    build(
+        &(0..bodies)
+            .map(|i| Body { load: 0x8000_0000 + 0x10_0000 * i as u32, records: (0..records).map(record).collect() })
+            .collect::<Vec<_>>(),
+    )
+}
+
+/// A window of 1,024 areas, linked by strides: even ones on the free list, odd ones on the used one.
+fn window() -> Vec<u8> {
+    let mut window = vec![0; 65536];
+    for k in 0..1022u32 {
+        let at = 64 * k as usize;
+        window[at..at + 4].copy_from_slice(&(0xD_0000 + k + 2).to_le_bytes());
+    }
+    window
+}
+
+fn main() {
+    println!("{:<40} {:>9} {:>9} {:>6}", "nanoseconds for each", "proved", "plain", "ratio");
+    for (bodies, records) in [(1, 65536), (16, 4096), (1, 8)] {
+        let image = image(bodies, records);
+        let proved = || inputs::check_image(black_box(&image));
+        let plain = || checks::image(black_box(&image));
+        assert_eq!((proved(), plain()), (Ok(()), Ok(())));
+        let all = (bodies * records) as u32;
+        let calls = (262_144 / all).max(4);
+        line(&format!("record of an image, {bodies} x {records}"), calls, all, shortest(calls, proved, plain));
+    }
+    let window = window();
+    for (areas, fcx, pcxi) in [(1024, 0xD_0000, 0xD_0001), (8, 0xD_03F8, 0xD_03F9)] {
+        let proved = || inputs::check_lists(0xD000_0000, black_box(&window), fcx, pcxi);
+        let plain = || checks::window(0xD000_0000, window.len()).and_then(|()| checks::lists(0xD000_0000, black_box(&window), fcx, pcxi));
+        assert_eq!((proved(), plain()), (Ok(()), Ok(())));
+        line(&format!("area of two lists, {areas} in all"), 256, areas, shortest(256, proved, plain));
+    }
+}
