@@ -10,7 +10,7 @@ use mathlib.Core.Logic.{_⊎_, inl, inr}
 use lib.Dec.{ltb}
 use borrow.Author.Tests.{ltb-false}
 use Rattle.areas.specs.Link.{addressOf}
-use Rattle.areas.specs.Place.{placed}
+use Rattle.areas.specs.Place.{placedAt, placed}
 use Rattle.areas.specs.declared.link.Link.{Link}
 use Rattle.areas.specs.declared.link.Address.{Address}
 use Rattle.areas.specs.declared.link.Place.the-variants.{At, Outside}
@@ -24,18 +24,21 @@ picked false true n at e = absurd (never-at e)
 picked false false n at e = (refl, refl, cc)
 
 -- a place that is found
-pub record Found (base len : ℕ) (a : Address) (at : ℕ) : Type 0 where
+pub record Found (base len size : ℕ) (a : Address) (at : ℕ) : Type 0 where
   pub above : base ≤ a .0
   pub is : at + base ≡ a .0
-  pub inside : at + 64 ≤ len
+  pub inside : at + size ≤ len
 
-pub placed-at : (base len : ℕ) (a : Address) (at : ℕ) → placed base len a ≡ At at → Found base len a at
-unfolding placed
-placed-at base len a at e =
-    let r = picked (ltb (a .0) base) (ltb len (a .0 - base + 64)) (a .0 - base) at e in
+pub place-found : (base len size : ℕ) (a : Address) (at : ℕ) → placedAt base len size a ≡ At at → Found base len size a at
+unfolding placedAt
+place-found base len size a at e =
+    let r = picked (ltb (a .0) base) (ltb len (a .0 - base + size)) (a .0 - base) at e in
     let t = ltb-false (a .0) base (r .0) in
-    let u = ltb-false len (a .0 - base + 64) (r .1) in
+    let u = ltb-false len (a .0 - base + size) (r .1) in
     record { above = t; is = omega arith; inside = omega arith }
+
+pub placed-at : (base len : ℕ) (a : Address) (at : ℕ) → placed base len a ≡ At at → Found base len 64 a at
+placed-at base len a at e = place-found base len 64 a at e
 
 -- two links' areas are the same or apart
 same-area : (h l h' l' : ℕ) → l < 2 ^ 16 → l' < 2 ^ 16 → h * 2 ^ 28 + l * 64 < h' * 2 ^ 28 + l' * 64 + 64 → h' * 2 ^ 28 + l' * 64 < h * 2 ^ 28 + l * 64 + 64 → (h ≡ h') × (l ≡ l')

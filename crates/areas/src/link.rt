@@ -2,7 +2,7 @@
 
 ghost use mathlib.Core.Path.{_≡_};
 ghost use Rattle.areas.specs.Link.{linkOf, addressOf};
-ghost use Rattle.areas.specs.Place.{placed};
+ghost use Rattle.areas.specs.Place.{placedAt, placed};
 
 pub struct Link(pub u32);
 
@@ -22,25 +22,31 @@ pub fn address_of(l: Link) -> Address
     Address(l.0 / 0x1_0000 % 16 * 0x1000_0000 + l.0 % 0x1_0000 * 64)
 }
 
-// Where an area lies in the window, or that it does not lie wholly in it.
+// Where some bytes lie in the window, or that they do not lie wholly in it.
 pub enum Place {
     At(usize),
     Outside,
 }
 
-// The place of a link's area in a window of len bytes at base.
-pub fn locate(base: Address, len: usize, l: Link) -> Place
-    ensures { λ r. ⌜ r ≡ placed (base .0) len (addressOf l) ⌝ }
+// The place of some bytes from an address on, in a window of len bytes at base.
+pub fn place_at(base: Address, len: usize, size: u8, a: Address) -> Place
+    ensures { λ r. ⌜ r ≡ placedAt (base .0) len size a ⌝ }
 {
-    let a = address_of(l);
     let from = base.0;
     let to = a.0;
     if to < from {
         return Place::Outside;
     }
     let at = (to - from) as usize;
-    if len < at + 64 {
+    if len < at + size as usize {
         return Place::Outside;
     }
     Place::At(at)
+}
+
+// The place of a link's area in a window of len bytes at base.
+pub fn locate(base: Address, len: usize, l: Link) -> Place
+    ensures { λ r. ⌜ r ≡ placed (base .0) len (addressOf l) ⌝ }
+{
+    place_at(base, len, 64, address_of(l))
 }

@@ -2,7 +2,7 @@
 -- Assumes nothing.
 use mathlib.Core.Path.{refl}
 use Rattle.memory.specs.Word.{wordAt}
-use Rattle.areas.specs.Place.{placed}
+use Rattle.areas.specs.Place.{placedAt}
 use Rattle.lists.specs.Walk.{walkOf, listsOf}
 use Rattle.image.specs.Table.{entryAt, entryHolds, entriesFrom, tableOf}
 use Rattle.image.specs.Records.{recordHolds, recordsFrom, imageOf}
@@ -10,5 +10,5 @@ use Rattle.inputs.specs.Checks.{windowHolds, stepVerdict, startVerdict}
 use Rattle.bench.specs.Accepted.{PoolAccepted}
 
 pub pool-accepted : PoolAccepted
-unfolding wordAt placed walkOf listsOf entryAt entryHolds entriesFrom tableOf recordHolds recordsFrom imageOf windowHolds stepVerdict startVerdict
+unfolding wordAt placedAt walkOf listsOf entryAt entryHolds entriesFrom tableOf recordHolds recordsFrom imageOf windowHolds stepVerdict startVerdict
 pool-accepted = refl

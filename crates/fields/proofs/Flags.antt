@@ -7,7 +7,7 @@ use mathlib.Core.Bool.{Bool, true, false}
 use borrow.Author.Tests.{eqb-true, eqb-false}
 use lib.Dec.{eqb, lit≤}
 use Rattle.words.specs.Bits.{number, bit}
-use Rattle.fields.specs.Psw.{isSet}
+use Rattle.fields.specs.Field.{isSet}
 
 pub number-le : (b : Bool) → number b ≤ 1
 number-le true = lit≤ tt

@@ -1,2 +1,8 @@
 -- The fields of the core registers.
+pub mod Field
 pub mod Psw
+pub mod Depth
+pub mod Icr
+pub mod Pcxi
+pub mod Syscon
+pub mod Request

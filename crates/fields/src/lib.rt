@@ -1,3 +1,8 @@
 // The fields of the core registers, each named once with its bits.
 
+pub mod depth;
+pub mod icr;
+pub mod pcxi;
 pub mod psw;
+pub mod request;
+pub mod syscon;

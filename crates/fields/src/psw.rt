@@ -1,17 +1,78 @@
-// The status flags of PSW, the Program Status Word (002, 3.3.2 and Table 8).
+// PSW, the Program Status Word (002, 3.3.2 and Table 8).
 
 ghost use mathlib.Core.Path.{_≡_};
-ghost use Prim.Native.Nat.{_+_, _*_, _≤_};
+ghost use Prim.Native.Nat.{_+_, _*_, _≤_, _<_};
 ghost use mathlib.Core.Bool.{_||_};
 ghost use lib.Dec.{eqb};
 ghost use Rattle.words.specs.Bits.{number};
-ghost use Rattle.fields.specs.Psw.{PSW·C, flaggedOf, overflowedOf, resetOf};
+ghost use Rattle.fields.specs.Psw.{
+  PSW·C,
+  PSW·V,
+  PSW·SV,
+  PSW·PRS,
+  PSW·IS,
+  PSW·GW,
+  isUser0,
+  isSupervisor,
+  flaggedOf,
+  overflowedOf,
+  resetOf,
+};
 
 // C, bit 31.
 pub fn carry(psw: u32) -> bool
     ensures { λ r. ⌜ r ≡ PSW·C psw ⌝ }
 {
     psw / 0x8000_0000 % 2 == 1
+}
+
+// V, bit 30.
+pub fn overflow(psw: u32) -> bool
+    ensures { λ r. ⌜ r ≡ PSW·V psw ⌝ }
+{
+    psw / 0x4000_0000 % 2 == 1
+}
+
+// SV, bit 29.
+pub fn sticky_overflow(psw: u32) -> bool
+    ensures { λ r. ⌜ r ≡ PSW·SV psw ⌝ }
+{
+    psw / 0x2000_0000 % 2 == 1
+}
+
+// PRS, bits 13:12: the protection register set.
+pub fn protection_set(psw: u32) -> usize
+    ensures { λ r. ⌜ (r ≡ PSW·PRS psw) × (r < 4) ⌝ }
+{
+    (psw / 0x1000 % 4) as usize
+}
+
+// IO, bits 11:10, is 0.
+pub fn user0(psw: u32) -> bool
+    ensures { λ r. ⌜ r ≡ isUser0 psw ⌝ }
+{
+    psw / 0x400 % 4 == 0
+}
+
+// IO is 2 or 3.
+pub fn supervisor(psw: u32) -> bool
+    ensures { λ r. ⌜ r ≡ isSupervisor psw ⌝ }
+{
+    2 <= psw / 0x400 % 4
+}
+
+// IS, bit 9: the interrupt stack is in use.
+pub fn interrupt_stack(psw: u32) -> bool
+    ensures { λ r. ⌜ r ≡ PSW·IS psw ⌝ }
+{
+    psw / 0x200 % 2 == 1
+}
+
+// GW, bit 8: the global address registers may be written.
+pub fn global_writes(psw: u32) -> bool
+    ensures { λ r. ⌜ r ≡ PSW·GW psw ⌝ }
+{
+    psw / 0x100 % 2 == 1
 }
 
 // PSW with C, V and AV written, SV and SAV sticky.

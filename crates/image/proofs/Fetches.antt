@@ -17,7 +17,7 @@ use Rattle.image.specs.Rules.{recordsBefore, EntryAt, TableRight, ImageR
 use Rattle.image.specs.Fetch.{instructionAt, covers, inBody, fetchFrom, fetchOf, Bounded, Begins, FetchSays}
 use Rattle.image.specs.declared.table.Entry.{Entry}
 use Rattle.image.specs.declared.fetch.Fetched.the-variants.{Found, Nothing}
-use Rattle.image.proofs.Tests.{never, both-true}
+use Rattle.words.proofs.Truth.{never, both-true}
 
 pub covered : (e : Entry) (pc : ℕ) → covers e pc ≡ true → (e .load ≤ pc) × ((pc - e .load) / 4 < e .records)
 covered e pc h =

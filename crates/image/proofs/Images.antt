@@ -16,7 +16,8 @@ use Rattle.image.specs.declared.table.TableCheck.{TableCheck}
 use Rattle.image.specs.declared.table.TableCheck.the-variants as table
 use Rattle.image.specs.declared.records.ImageCheck.{ImageCheck}
 use Rattle.image.specs.declared.records.ImageCheck.the-variants.{Holds, Table, Record}
-use Rattle.image.proofs.Tests.{never, record-right, right-record}
+use Rattle.words.proofs.Truth.{never}
+use Rattle.image.proofs.Tests.{record-right, right-record}
 use Rattle.image.proofs.Tables.{table-says, table-only}
 
 -- ---- sizes

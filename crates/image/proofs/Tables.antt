@@ -16,7 +16,8 @@ use Rattle.image.specs.Rules.{startOf, floorOf, EntryAt, Counted, TableR
 use Rattle.image.specs.declared.table.Entry.{Entry}
 use Rattle.image.specs.declared.table.TableCheck.{TableCheck}
 use Rattle.image.specs.declared.table.TableCheck.the-variants.{Holds, Fault}
-use Rattle.image.proofs.Tests.{never, entry-right, right-entry, either-false}
+use Rattle.words.proofs.Truth.{never, either-false}
+use Rattle.image.proofs.Tests.{entry-right, right-entry}
 
 -- ---- the cases of a turn
 module _ (k : ℕ) (img : List ℕ) (i start floor : ℕ) where

@@ -5,27 +5,13 @@ use native.Mathlib.Omega.{arith}
 use mathlib.Core.Path.{_≡_, refl, sym}
 use mathlib.Core.Bool.{Bool, true, false, _&&_, _||_}
 use mathlib.Core.Logic.{_⊎_, inl, inr, ⊎-elim}
+use Rattle.words.proofs.Truth.{both-true, either-true}
 use borrow.Author.Tests.{leb-true, leb-false, eqb-true, ltb-true, ltb-false, le-leb, eq-eqb}
 use lib.Dec.{ltb, leb}
 use Rattle.image.specs.Table.{entryHolds}
 use Rattle.image.specs.Records.{recordHolds}
 use Rattle.image.specs.Rules.{EntryRight, RecordRight}
 use Rattle.image.specs.declared.table.Entry.{Entry}
-
-pub never : true ≡ false → ⊥
-never e = let z : _≡_ {A = ℕ} 0 1 = cc in omega arith
-
-pub both-true : (a b : Bool) → (a && b) ≡ true → (a ≡ true) × (b ≡ true)
-both-true true b e = (refl, e)
-both-true false b e = absurd (never (sym e))
-
-pub either-true : (a b : Bool) → (a || b) ≡ true → (a ≡ true) ⊎ (b ≡ true)
-either-true true b e = inl refl
-either-true false b e = inr e
-
-pub either-false : (a b : Bool) → (a || b) ≡ false → (a ≡ false) × (b ≡ false)
-either-false true b e = absurd (never e)
-either-false false b e = (refl, e)
 
 module _ (e : Entry) (start floor len : ℕ) where
   pub entry-right : entryHolds e start floor len ≡ true → EntryRight e start floor len

@@ -41,9 +41,12 @@ fetchFrom (suc k) img i pc = cond (covers (entryAt img i) pc) (inBody img (entry
 unfoldable pub fetchOf : List ℕ → ℕ → Fetched
 fetchOf img pc = fetchFrom (entriesOf img) img 0 pc
 
--- a found record's fields are in their bounds
+-- a record's fields are in their bounds
+abbrev pub FieldsHold : Instruction → Type 0
+FieldsHold i = (i .c < 16) × (i .a < 16) × (i .b ≤ 16)
+
 abbrev pub Bounded : Fetched → Type 0
-Bounded (Found i) = (i .c < 16) × (i .a < 16) × (i .b ≤ 16)
+Bounded (Found i) = FieldsHold i
 Bounded Nothing = Unit {0}
 
 -- the record with index j of the body of entry i, both from 0, begins at pc

@@ -17,7 +17,7 @@ use Rattle.image.specs.Records.{imageOf}
 use Rattle.image.specs.Rules.{ImageRight, ImageSays}
 use Rattle.image.specs.declared.records.ImageCheck.{ImageCheck}
 use Rattle.image.specs.declared.records.ImageCheck.the-variants as image
-use Rattle.image.proofs.Tests.{never}
+use Rattle.words.proofs.Truth.{never}
 use Rattle.image.proofs.Images.{image-says, image-only}
 use Rattle.inputs.specs.Checks.{windowHolds, imageSaid, imageVerdict, pcVerdict, listsSaid, andThen, stepVerdict, startVerdict}
 use Rattle.inputs.specs.Rules.{WindowOf, Ready, StepSays, StartSays, Exactly}

@@ -4,7 +4,7 @@ use Prim.Native.Nat.{ℕ, _+_, _/_, _%_, _^_}
 use mathlib.Core.Path.{_≡_}
 use mathlib.Core.Bool.{true}
 use borrow.Author.Tests.{leb-true, eqb-true, le-leb, eq-eqb}
-use Rattle.image.proofs.Tests.{both-true}
+use Rattle.words.proofs.Truth.{both-true}
 use Rattle.inputs.specs.Checks.{windowHolds}
 use Rattle.inputs.specs.Rules.{WindowRight}
 

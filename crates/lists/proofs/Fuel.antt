@@ -6,6 +6,7 @@ use mathlib.Core.List.{List, [], _∷_}
 use Prim.Native.Nat.{ℕ, zero, suc, _/_, _≤_, _<_}
 use native.Mathlib.Decide.{ℕ-discrete}
 use native.Mathlib.Omega.{arith}
+use Rattle.words.proofs.Truth.{never}
 use lib.ListN.{length, getD, set, length-set}
 use Rattle.memory.specs.Memory.{Memory}
 use Rattle.memory.specs.Word.{wordAt}
@@ -17,9 +18,6 @@ use Rattle.areas.specs.declared.link.Place.{Place}
 use Rattle.areas.specs.declared.link.Place.the-variants.{At, Outside}
 use Rattle.areas.proofs.Places.{placed-at}
 use Rattle.lists.proofs.Walks.{walk-over, walk-whole, walk-outside, walk-again, walk-on}
-
-pub never : true ≡ false → ⊥
-never e = let z : _≡_ {A = ℕ} 0 1 = cc in omega arith
 
 -- which of the four cases a link is in
 pub data Turn (m : Memory) (l : Link) (met : List Bool) : Type 0 where

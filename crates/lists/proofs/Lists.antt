@@ -19,9 +19,10 @@ use Rattle.areas.specs.declared.link.Place.the-variants.{At, Outside}
 use Rattle.lists.specs.declared.ListEnd.{ListEnd}
 use Rattle.lists.specs.declared.ListEnd.the-variants.{Whole, LinkOutside, MetAgain}
 use Rattle.lists.proofs.Counts.{same?, one-self, one-other}
+use Rattle.words.proofs.Truth.{never}
 use Rattle.areas.proofs.Places.{apart, never-at}
 use Rattle.lists.proofs.Walks.{walk-whole, walk-outside, walk-again, walk-on}
-use Rattle.lists.proofs.Fuel.{never, Turn, ends, outside, again, onward, turn, unmet, unmet-le, unmet-set, mark-in}
+use Rattle.lists.proofs.Fuel.{Turn, ends, outside, again, onward, turn, unmet, unmet-le, unmet-set, mark-in}
 
 -- ---- the marks say which links were met: `c` counts how often
 pub record Marked (m : Memory) (met : List Bool) (c : Link → ℕ) : Type 0 where

@@ -3,7 +3,8 @@
 ghost use mathlib.Core.Path.{_≡_};
 ghost use Prim.Native.Nat.{_+_, _≤_, _<_};
 ghost use lib.ListN.{length};
-ghost use Rattle.memory.specs.Word.{wordAt, putWord, putWords};
+ghost use lib.ListN.{getD};
+ghost use Rattle.memory.specs.Word.{halfAt, wordAt, putByte, putHalf, putWord, putWords};
 
 // The word at byte i.
 pub fn word_at(s: &[u8], i: usize) -> u32
@@ -13,10 +14,43 @@ pub fn word_at(s: &[u8], i: usize) -> u32
     wide(s[i]) + 0x100 * wide(s[i + 1]) + 0x1_0000 * wide(s[i + 2]) + 0x100_0000 * wide(s[i + 3])
 }
 
+// The halfword at byte i.
+pub fn half_at(s: &[u8], i: usize) -> u32
+    requires { ⌜ i + 2 ≤ length (now s) ⌝ }
+    ensures { λ r. ⌜ (r ≡ halfAt (now (s .entry)) i) × (r < 0x1_0000) ⌝ }
+{
+    wide(s[i]) + 0x100 * wide(s[i + 1])
+}
+
+// The byte at i.
+pub fn byte_at(s: &[u8], i: usize) -> u32
+    requires { ⌜ i + 1 ≤ length (now s) ⌝ }
+    ensures { λ r. ⌜ (r ≡ getD (now (s .entry)) i 0) × (r < 0x100) ⌝ }
+{
+    wide(s[i])
+}
+
 fn wide(b: u8) -> u32
     ensures { λ r. ⌜ (r ≡ b) × (r < 256) ⌝ }
 {
     b as u32
+}
+
+// Writes the low byte of w at i.
+pub fn put_byte(s: &mut [u8], i: usize, w: u32)
+    requires { ⌜ i + 1 ≤ length (now s) ⌝ }
+    ensures { λ _. ⌜ now (s .exit) ≡ putByte (now (s .entry)) i w ⌝ }
+{
+    s[i] = (w % 0x100) as u8;
+}
+
+// Writes the low halfword of w at byte i.
+pub fn put_half(s: &mut [u8], i: usize, w: u32)
+    requires { ⌜ i + 2 ≤ length (now s) ⌝ }
+    ensures { λ _. ⌜ now (s .exit) ≡ putHalf (now (s .entry)) i w ⌝ }
+{
+    s[i] = (w % 0x100) as u8;
+    s[i + 1] = (w / 0x100 % 0x100) as u8;
 }
 
 // Writes the word w at byte i.

@@ -1,4 +1,5 @@
 -- Laws that the proofs of several functions cite.
+pub mod Truth
 pub mod Integers
 pub mod Exact
 pub mod Values

@@ -1,7 +1,7 @@
 -- `fields::psw::carry` meets its contract. Assumes nothing.
 use mathlib.Core.Path.{refl}
 use Rattle.words.specs.Bits.{bit}
-use Rattle.fields.specs.Psw.{isSet}
+use Rattle.fields.specs.Field.{isSet}
 use Rattle.fields.proofs.psw.carry.Statement.{statement}
 use Rattle.fields.proofs.psw.carry.Tie as tie
 

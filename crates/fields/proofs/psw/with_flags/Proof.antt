@@ -1,7 +1,8 @@
 -- `fields::psw::with_flags` meets its contract. Assumes nothing.
 use borrow.Author.Needs.{needs}
 use Rattle.words.specs.Bits.{bit}
-use Rattle.fields.specs.Psw.{isSet, statusOf, flaggedOf}
+use Rattle.fields.specs.Field.{isSet}
+use Rattle.fields.specs.Psw.{statusOf, flaggedOf}
 use native.Mathlib.Omega.{arith}
 use Rattle.fields.proofs.psw.with_flags.Statement.{statement}
 use Rattle.fields.proofs.psw.with_flags.Tie as tie

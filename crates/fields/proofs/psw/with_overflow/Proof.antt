@@ -1,7 +1,8 @@
 -- `fields::psw::with_overflow` meets its contract. Assumes nothing.
 use borrow.Author.Needs.{needs}
 use Rattle.words.specs.Bits.{bit}
-use Rattle.fields.specs.Psw.{isSet, statusOf, flaggedOf, overflowedOf}
+use Rattle.fields.specs.Field.{isSet}
+use Rattle.fields.specs.Psw.{statusOf, flaggedOf, overflowedOf}
 use Rattle.fields.proofs.Flags.{number-isSet}
 use native.Mathlib.Omega.{arith}
 use Rattle.fields.proofs.psw.with_overflow.Statement.{statement}

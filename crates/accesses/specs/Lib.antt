@@ -1,0 +1,3 @@
+-- Loads and stores.
+pub mod Load
+pub mod Store

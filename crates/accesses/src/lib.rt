@@ -1,0 +1,4 @@
+// Loads and stores: register c at A[a] plus immediate.
+
+pub mod load;
+pub mod store;

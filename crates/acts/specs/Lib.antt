@@ -1,0 +1,2 @@
+-- Acts.
+pub mod Acts

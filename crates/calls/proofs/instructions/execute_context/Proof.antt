@@ -1,0 +1,77 @@
+-- `calls::instructions::execute_context` meets its contract. Assumes nothing.
+use borrow.Author.Needs.{needs}
+use Rattle.calls.specs.Instructions.{contextOp}
+use Rattle.calls.proofs.instructions.execute_context.Statement.{statement}
+use Rattle.calls.proofs.instructions.execute_context.Tie as tie
+
+returns : tie.Need-returns
+unfolding contextOp
+returns c = rw (c .before .before .before .before .before .before .before .before .before .enum-told .given .1, ← c .before .before .before .before .before .before .before .plus .ensures) (c .before .before .call .ensures)
+
+returns-2 : tie.Need-returns-2
+unfolding contextOp
+returns-2 c = rw (c .before .before .before .before .before .before .before .before .enum-told2 .given .1) (c .before .before .call2 .ensures)
+
+returns-3 : tie.Need-returns-3
+unfolding contextOp
+returns-3 c = rw (c .before .before .before .before .before .before .before .enum-told3 .given .1) (c .before .before .ret .ensures)
+
+returns-4 : tie.Need-returns-4
+unfolding contextOp
+returns-4 c = rw (c .before .before .before .before .before .before .before .enum-told4 .given .1) (c .before .before .rfe .ensures)
+
+returns-5 : tie.Need-returns-5
+unfolding contextOp
+returns-5 c = rw (c .before .before .before .before .before .before .before .enum-told5 .given .1) (c .before .before .svlcx .ensures)
+
+returns-6 : tie.Need-returns-6
+unfolding contextOp
+returns-6 c = rw (c .before .before .before .before .before .before .before .enum-told6 .given .1) (c .before .before .rslcx .ensures)
+
+returns-7 : tie.Need-returns-7
+unfolding contextOp
+returns-7 c = rw (c .before .before .before .before .before .before .before .enum-told7 .given .1) (c .before .before .bisr .ensures)
+
+returns-8 : tie.Need-returns-8
+unfolding contextOp
+returns-8 c = rw (c .before .enum-told8 .given .1, c .system-call .ensures)
+
+pub execute-context-spec : {M : Type 1} → statement M
+execute-context-spec =
+    tie.close
+    (tie.spec
+    (λ c. search needs)
+    (λ c. search needs)
+    (λ c κs. search needs)
+    (λ c κs. search needs)
+    (λ c. search needs)
+    (λ c. search needs)
+    (λ c. search needs)
+    (λ c κs. search needs)
+    (λ c. search needs)
+    (λ c κs. search needs)
+    (λ c. search needs)
+    (λ c κs. search needs)
+    (λ c. search needs)
+    (λ c κs. search needs)
+    (λ c. search needs)
+    (λ c κs. search needs)
+    (λ c. search needs)
+    (λ c κs. search needs)
+    (λ c. search needs)
+    (λ c κs. search needs)
+    (λ c. search needs)
+    returns
+    (λ c. search needs)
+    returns-2
+    (λ c. search needs)
+    returns-3
+    (λ c. search needs)
+    returns-4
+    (λ c. search needs)
+    returns-5
+    (λ c. search needs)
+    returns-6
+    (λ c. search needs)
+    returns-7
+    returns-8)

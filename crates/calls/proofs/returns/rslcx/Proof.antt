@@ -1,0 +1,26 @@
+-- `calls::returns::rslcx` meets its contract. Assumes nothing.
+use borrow.Author.Needs.{needs}
+use Rattle.calls.specs.Returns.{rslcxOf}
+use Rattle.calls.proofs.returns.rslcx.Statement.{statement}
+use Rattle.calls.proofs.returns.rslcx.Tie as tie
+
+returns : tie.Need-returns
+unfolding rslcxOf
+returns c = rw (← c .before .before .before .previous-context .ensures, c .before .t .given .1)
+
+returns-2 : tie.Need-returns-2
+unfolding rslcxOf
+returns-2 c = rw (← c .before .before .before .before .before .before .before .before .before .previous-context .ensures, c .before .before .before .before .before .before .before .enum-told .given .1) (c .before .before .return-to .ensures)
+
+pub rslcx-spec : {M : Type 1} → statement M
+rslcx-spec =
+    tie.close
+    (tie.spec
+    (λ c. search needs)
+    (λ c κs. search needs)
+    (λ c. search needs)
+    (λ c. search needs)
+    (λ c κs. search needs)
+    returns
+    (λ c. search needs)
+    returns-2)

@@ -1,0 +1,35 @@
+-- `calls::saves::svlcx` meets its contract. Assumes nothing.
+use borrow.Author.Needs.{needs}
+use Rattle.calls.specs.Saves.{svlcxOf}
+use Rattle.calls.proofs.saves.svlcx.Statement.{statement}
+use Rattle.calls.proofs.saves.svlcx.Tie as tie
+
+returns : tie.Need-returns
+unfolding svlcxOf
+returns c = rw (← c .before .before .before .before .before .before .before .before .lower .ensures, ← c .before .before .before .before .before .save .ensures, c .before .s .given .1)
+
+returns-2 : tie.Need-returns-2
+unfolding svlcxOf
+returns-2 c = rw (← c .before .before .before .before .before .before .before .lower .ensures, ← c .before .before .before .before .save .ensures, c .enum-told .given .1)
+
+returns-3 : tie.Need-returns-3
+unfolding svlcxOf
+returns-3 c = rw (← c .before .before .before .before .before .before .before .lower .ensures, ← c .before .before .before .before .save .ensures, c .enum-told2 .given .1)
+
+pub svlcx-spec : {M : Type 1} → statement M
+svlcx-spec =
+    tie.close
+    (tie.spec
+    (λ c κs. search needs)
+    (λ c κs. search needs)
+    (λ c. search needs)
+    (λ c. search needs)
+    (λ c. search needs)
+    (λ c. search needs)
+    (λ c. search needs)
+    (λ c. search needs)
+    returns
+    (λ c. search needs)
+    returns-2
+    (λ c. search needs)
+    returns-3)

@@ -1,0 +1,52 @@
+// CALL to SYSCALL.
+
+use crate::returns::ret;
+use crate::returns::rfe;
+use crate::returns::rslcx;
+use crate::saves::bisr;
+use crate::saves::call;
+use crate::saves::svlcx;
+use acts::How;
+use events::trap::system_call;
+use image::fetch::Instruction;
+use operations::Context;
+use registers::PC;
+use registers::plus;
+ghost use mathlib.Core.Path.{_≡_};
+ghost use Prim.Native.Nat.{_<_};
+ghost use Rattle.memory.specs.Memory.{memory};
+ghost use Rattle.registers.specs.Registers.{registers};
+ghost use Rattle.image.specs.Fetch.{FieldsHold};
+ghost use Rattle.acts.specs.Acts.{did, performOf};
+ghost use Rattle.calls.specs.Instructions.{contextOp};
+
+pub fn execute_context(
+    base: u32,
+    window: &mut [u8],
+    d: &mut [u32; 16],
+    a: &mut [u32; 16],
+    core: &mut [u32; 10],
+    op: Context,
+    i: Instruction,
+) -> How
+    requires { ⌜ FieldsHold i ⌝ }
+    ensures { λ r. ⌜ did r (registers (now (d .exit)) (now (a .exit)) (now (core .exit))) (memory base (now (window .exit))) ≡ performOf (contextOp op i (registers (now (d .entry)) (now (a .entry)) (now (core .entry)))) (registers (now (d .entry)) (now (a .entry)) (now (core .entry))) (memory base (now (window .entry))) ⌝ }
+{
+    match op {
+        Context::Call => {
+            let to = plus(core[PC], i.imm);
+            call(base, window, d, a, core, to, i.next)
+        }
+        Context::Calli => {
+            let x = i.a;
+            let to = a[x];
+            call(base, window, d, a, core, to, i.next)
+        }
+        Context::Ret => ret(base, window, d, a, core),
+        Context::Rfe => rfe(base, window, d, a, core),
+        Context::Svlcx => svlcx(base, window, d, a, core, i.next),
+        Context::Rslcx => rslcx(base, window, d, a, core, i.next),
+        Context::Bisr => bisr(base, window, d, a, core, i.imm, i.next),
+        Context::Syscall => How::TrapAfter(system_call(i.imm)),
+    }
+}

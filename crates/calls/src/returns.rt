@@ -1,0 +1,147 @@
+// RET, RFE and RSLCX.
+
+use acts::How;
+use areas::link::link_of;
+use contexts::context::Half;
+use contexts::restore::Returned;
+use contexts::restore::restore;
+use events::event::Stop;
+use events::trap::CDU;
+use events::trap::CSU;
+use events::trap::CTYP;
+use events::trap::NEST;
+use events::trap::Trap;
+use fields::depth::in_call;
+use fields::depth::underflows;
+use fields::pcxi;
+use registers::ICR;
+use registers::PC;
+use registers::PCXI;
+use registers::PSW;
+use registers::new_pc;
+ghost use mathlib.Core.Path.{_≡_};
+ghost use Rattle.memory.specs.Memory.{memory};
+ghost use Rattle.registers.specs.Registers.{registers, withPc};
+ghost use Rattle.acts.specs.Acts.{did, performOf, Return};
+ghost use Rattle.contexts.specs.declared.context.Half.the-variants as half;
+ghost use Rattle.calls.specs.Returns.{isOf, previousOf, retOf, rfeOf, rslcxOf};
+
+// Whether there is a context of that half to return to.
+pub enum Previous {
+    There,
+    Traps(Trap),
+}
+
+// Whether PCXI.UL is that of the half.
+fn is_of(half: Half, word: u32) -> bool
+    ensures { λ r. ⌜ r ≡ isOf half word ⌝ }
+{
+    match half {
+        Half::Upper => pcxi::upper(word),
+        Half::Lower => !pcxi::upper(word),
+    }
+}
+
+fn previous_context(word: u32, half: Half) -> Previous
+    ensures { λ r. ⌜ r ≡ previousOf half word ⌝ }
+{
+    let l = link_of(word);
+    if l.0 == 0 {
+        return Previous::Traps(CSU);
+    }
+    if is_of(half, word) {
+        return Previous::There;
+    }
+    Previous::Traps(CTYP)
+}
+
+// Returns to the upper context, with the new PC.
+fn return_to(
+    base: u32,
+    window: &mut [u8],
+    d: &mut [u32; 16],
+    a: &mut [u32; 16],
+    core: &mut [u32; 10],
+    half: Half,
+    to: u32,
+) -> How
+    ensures { λ r. ⌜ did r (registers (now (d .exit)) (now (a .exit)) (now (core .exit))) (memory base (now (window .exit))) ≡ performOf (Return half (withPc to)) (registers (now (d .entry)) (now (a .entry)) (now (core .entry))) (memory base (now (window .entry))) ⌝ }
+{
+    match restore(base, window, d, a, core, half) {
+        Returned::Outside => How::Stopped(Stop::Outside),
+        Returned::Done => {
+            core[PC] = to;
+            How::Done
+        }
+    }
+}
+
+pub fn ret(
+    base: u32,
+    window: &mut [u8],
+    d: &mut [u32; 16],
+    a: &mut [u32; 16],
+    core: &mut [u32; 10],
+) -> How
+    ensures { λ r. ⌜ did r (registers (now (d .exit)) (now (a .exit)) (now (core .exit))) (memory base (now (window .exit))) ≡ performOf (retOf (registers (now (d .entry)) (now (a .entry)) (now (core .entry)))) (registers (now (d .entry)) (now (a .entry)) (now (core .entry))) (memory base (now (window .entry))) ⌝ }
+{
+    if underflows(core[PSW]) {
+        return How::Trap(CDU);
+    }
+    match previous_context(core[PCXI], Half::Upper) {
+        Previous::Traps(t) => How::Trap(t),
+        Previous::There => {
+            let to = new_pc(a[11]);
+            return_to(base, window, d, a, core, Half::Upper, to)
+        }
+    }
+}
+
+pub fn rfe(
+    base: u32,
+    window: &mut [u8],
+    d: &mut [u32; 16],
+    a: &mut [u32; 16],
+    core: &mut [u32; 10],
+) -> How
+    ensures { λ r. ⌜ did r (registers (now (d .exit)) (now (a .exit)) (now (core .exit))) (memory base (now (window .exit))) ≡ performOf (rfeOf (registers (now (d .entry)) (now (a .entry)) (now (core .entry)))) (registers (now (d .entry)) (now (a .entry)) (now (core .entry))) (memory base (now (window .entry))) ⌝ }
+{
+    match previous_context(core[PCXI], Half::Upper) {
+        Previous::Traps(t) => How::Trap(t),
+        Previous::There => {
+            if in_call(core[PSW]) {
+                return How::Trap(NEST);
+            }
+            let to = new_pc(a[11]);
+            let icr = fields::icr::written(
+                core[ICR],
+                pcxi::interrupts(core[PCXI]),
+                pcxi::priority(core[PCXI]),
+            );
+            match restore(base, window, d, a, core, Half::Upper) {
+                Returned::Outside => How::Stopped(Stop::Outside),
+                Returned::Done => {
+                    core[ICR] = icr;
+                    core[PC] = to;
+                    How::Done
+                }
+            }
+        }
+    }
+}
+
+pub fn rslcx(
+    base: u32,
+    window: &mut [u8],
+    d: &mut [u32; 16],
+    a: &mut [u32; 16],
+    core: &mut [u32; 10],
+    next: u32,
+) -> How
+    ensures { λ r. ⌜ did r (registers (now (d .exit)) (now (a .exit)) (now (core .exit))) (memory base (now (window .exit))) ≡ performOf (rslcxOf next (registers (now (d .entry)) (now (a .entry)) (now (core .entry)))) (registers (now (d .entry)) (now (a .entry)) (now (core .entry))) (memory base (now (window .entry))) ⌝ }
+{
+    match previous_context(core[PCXI], Half::Lower) {
+        Previous::Traps(t) => How::Trap(t),
+        Previous::There => return_to(base, window, d, a, core, Half::Lower, next),
+    }
+}

@@ -1,0 +1,119 @@
+// CALL and CALLI, SVLCX and BISR.
+
+use acts::How;
+use contexts::context::Half;
+use contexts::context::lower;
+use contexts::context::upper;
+use contexts::save::Saved;
+use contexts::save::save;
+use events::trap::CDO;
+use events::trap::PRIV;
+use fields::depth::called;
+use fields::depth::overflows;
+use registers::ICR;
+use registers::PC;
+use registers::PSW;
+use registers::new_pc;
+ghost use mathlib.Core.Path.{_≡_};
+ghost use Rattle.memory.specs.Memory.{memory};
+ghost use Rattle.registers.specs.Registers.{registers};
+ghost use Rattle.acts.specs.Acts.{did, performOf};
+ghost use Rattle.calls.specs.Saves.{calledThen, callOf, svlcxOf, bisrThen, bisrOf};
+
+// What a call sets after its save.
+fn set_called(d: &mut [u32; 16], a: &mut [u32; 16], core: &mut [u32; 10], to: u32, next: u32)
+    ensures { λ _. ⌜ registers (now (d .exit)) (now (a .exit)) (now (core .exit)) ≡ calledThen to next (registers (now (d .entry)) (now (a .entry)) (now (core .entry))) ⌝ }
+{
+    a[11] = next;
+    core[PSW] = called(core[PSW]);
+    core[PC] = new_pc(to);
+}
+
+// CALL and CALLI, to an address.
+pub fn call(
+    base: u32,
+    window: &mut [u8],
+    d: &mut [u32; 16],
+    a: &mut [u32; 16],
+    core: &mut [u32; 10],
+    to: u32,
+    next: u32,
+) -> How
+    ensures { λ r. ⌜ did r (registers (now (d .exit)) (now (a .exit)) (now (core .exit))) (memory base (now (window .exit))) ≡ performOf (callOf to next (registers (now (d .entry)) (now (a .entry)) (now (core .entry)))) (registers (now (d .entry)) (now (a .entry)) (now (core .entry))) (memory base (now (window .entry))) ⌝ }
+{
+    if overflows(core[PSW]) {
+        return How::Trap(CDO);
+    }
+    let words = upper(d, a, core);
+    match save(base, window, core, Half::Upper, words) {
+        Saved::Stops(s) => How::Stopped(s),
+        Saved::Done => {
+            set_called(d, a, core, to, next);
+            How::Done
+        }
+        Saved::Depleted => {
+            set_called(d, a, core, to, next);
+            How::Depleted
+        }
+    }
+}
+
+pub fn svlcx(
+    base: u32,
+    window: &mut [u8],
+    d: &mut [u32; 16],
+    a: &mut [u32; 16],
+    core: &mut [u32; 10],
+    next: u32,
+) -> How
+    ensures { λ r. ⌜ did r (registers (now (d .exit)) (now (a .exit)) (now (core .exit))) (memory base (now (window .exit))) ≡ performOf (svlcxOf next) (registers (now (d .entry)) (now (a .entry)) (now (core .entry))) (memory base (now (window .entry))) ⌝ }
+{
+    let words = lower(d, a, core, next);
+    match save(base, window, core, Half::Lower, words) {
+        Saved::Stops(s) => How::Stopped(s),
+        Saved::Done => {
+            core[PC] = next;
+            How::Done
+        }
+        Saved::Depleted => {
+            core[PC] = next;
+            How::Depleted
+        }
+    }
+}
+
+// What BISR sets after its save.
+fn set_priority(d: &mut [u32; 16], a: &mut [u32; 16], core: &mut [u32; 10], imm: u32, next: u32)
+    ensures { λ _. ⌜ registers (now (d .exit)) (now (a .exit)) (now (core .exit)) ≡ bisrThen imm next (registers (now (d .entry)) (now (a .entry)) (now (core .entry))) ⌝ }
+{
+    core[ICR] = fields::icr::written(core[ICR], true, imm);
+    core[PC] = next;
+}
+
+pub fn bisr(
+    base: u32,
+    window: &mut [u8],
+    d: &mut [u32; 16],
+    a: &mut [u32; 16],
+    core: &mut [u32; 10],
+    imm: u32,
+    next: u32,
+) -> How
+    ensures { λ r. ⌜ did r (registers (now (d .exit)) (now (a .exit)) (now (core .exit))) (memory base (now (window .exit))) ≡ performOf (bisrOf imm next (registers (now (d .entry)) (now (a .entry)) (now (core .entry)))) (registers (now (d .entry)) (now (a .entry)) (now (core .entry))) (memory base (now (window .entry))) ⌝ }
+{
+    if !fields::psw::supervisor(core[PSW]) {
+        return How::Trap(PRIV);
+    }
+    let words = lower(d, a, core, next);
+    match save(base, window, core, Half::Lower, words) {
+        Saved::Stops(s) => How::Stopped(s),
+        Saved::Done => {
+            set_priority(d, a, core, imm, next);
+            How::Done
+        }
+        Saved::Depleted => {
+            set_priority(d, a, core, imm, next);
+            How::Depleted
+        }
+    }
+}

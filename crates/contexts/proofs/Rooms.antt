@@ -1,0 +1,59 @@
+-- The area for a save: which area it is, and that it lies in the window.
+-- Assumes nothing.
+use Prim.Native.Nat.{ℕ, _+_, _≤_}
+use native.Mathlib.Omega.{arith}
+use mathlib.Core.Path.{_≡_, refl, sym, ap, _∙_}
+use mathlib.Core.Bool.{Bool, true, false, cond}
+use lib.Dec.{eqb}
+use borrow.Author.Tests.{eqb-false, eq-eqb, ne-eqb}
+use Rattle.areas.specs.Link.{linkOf, addressOf}
+use Rattle.areas.specs.Place.{placed}
+use Rattle.areas.specs.declared.link.Link.{Link}
+use Rattle.areas.specs.declared.link.Place.{Place}
+use Rattle.areas.specs.declared.link.Place.the-variants as place
+use Rattle.areas.proofs.Places.{placed-at}
+use Rattle.events.specs.declared.event.Stop.{Stop}
+use Rattle.events.specs.declared.event.Stop.the-variants.{NoArea, Outside}
+use Rattle.contexts.specs.Save.{roomBy, roomAt}
+use Rattle.contexts.specs.declared.save.Room.{Room}
+use Rattle.contexts.specs.declared.save.Room.the-variants as room
+
+never : {s : Stop} {at : ℕ} → room.Stops s ≡ room.At at → ⊥
+never e = let z : _≡_ {A = ℕ} 0 1 = cc in omega arith
+
+by-place : (p : Place) (at : ℕ) → roomBy p ≡ room.At at → p ≡ place.At at
+by-place (place.At x) at e = let z : x ≡ at = cc in rw z
+by-place place.Outside at e = absurd (never e)
+
+-- an area that is found: its link is not 0, and it lies at that place
+pub record Area (base len word at : ℕ) : Type 0 where
+  pub linked : linkOf word .0 ≡ 0 → ⊥
+  pub lies : placed base len (addressOf (linkOf word)) ≡ place.At at
+
+pub room-at : (base len word at : ℕ) → roomAt base len word ≡ room.At at → Area base len word at
+unfolding roomAt
+room-at base len word at e = by (eqb (linkOf word .0) 0) refl e
+  where
+    by : (t : Bool) → eqb (linkOf word .0) 0 ≡ t → cond t (room.Stops NoArea) (roomBy (placed base len (addressOf (linkOf word)))) ≡ room.At at → Area base len word at
+    by true t f = absurd (never f)
+    by false t f = record { linked = eqb-false (linkOf word .0) 0 t; lies = by-place (placed base len (addressOf (linkOf word))) at f }
+
+pub room-inside : (base len word at : ℕ) → roomAt base len word ≡ room.At at → at + 64 ≤ len
+room-inside base len word at e = placed-at base len (addressOf (linkOf word)) at (room-at base len word at e .lies) .inside
+
+-- the cases of the search for it
+module _ (base len word : ℕ) (l : Link) (is : l ≡ linkOf word) where
+  pub room-none : l .0 ≡ 0 → room.Stops NoArea ≡ roomAt base len word
+  unfolding roomAt
+  room-none z = rw (eq-eqb (linkOf word .0) 0 (rw is at z))
+
+  module _ (some : l .0 ≡ 0 → ⊥) (p : Place) (found : p ≡ placed base len (addressOf l)) where
+    by : roomBy p ≡ roomAt base len word
+    unfolding roomAt
+    by = let n : linkOf word .0 ≡ 0 → ⊥ = rw is at some in rw (ne-eqb (linkOf word .0) 0 n, found, is)
+
+    pub room-some : (at : ℕ) → p ≡ place.At at → room.At at ≡ roomAt base len word
+    room-some at e = ap roomBy (sym e) ∙ by
+
+    pub room-outside : p ≡ place.Outside → room.Stops Outside ≡ roomAt base len word
+    room-outside e = ap roomBy (sym e) ∙ by

@@ -1,0 +1,44 @@
+-- `contexts::restore::load_upper` meets its contract. Assumes nothing.
+use borrow.Author.Needs.{needs}
+use mathlib.Core.Path.{_≡_, refl, sym, ap, _∙_}
+use lib.ListN.{length}
+use Rattle.areas.proofs.Parts.{area-length}
+use Rattle.contexts.specs.Restore.{loadOf}
+use native.Mathlib.Omega.{arith}
+use Rattle.contexts.proofs.restore.load_upper.Statement.{statement}
+use Rattle.contexts.proofs.restore.load_upper.Tie as tie
+
+upper-addresses-requires : tie.Need-upper-addresses-requires
+upper-addresses-requires c κs = ap length (c .before .area .ensures) ∙ area-length _ _ (c .before .before .before .before .pre)
+
+upper-data-requires : tie.Need-upper-data-requires
+upper-data-requires c κs = ap length (c .before .before .before .area .ensures) ∙ area-length _ _ (c .before .before .before .before .before .before .pre)
+
+word-at-requires : tie.Need-word-at-requires
+word-at-requires c κs = omega (arith, ap length (c .before .before .before .before .before .before .before .area .ensures) ∙ area-length _ _ (c .before .before .before .before .before .before .before .before .before .before .pre))
+
+word-at-requires-2 : tie.Need-word-at-requires-2
+word-at-requires-2 c κs = omega (arith, ap length (c .before .before .before .before .before .before .before .before .area .ensures) ∙ area-length _ _ (c .before .before .before .before .before .before .before .before .before .before .before .pre))
+
+returns : tie.Need-returns
+unfolding loadOf
+returns c = rw (c .before .before .before .before .before .before .before .before .before .before .before .upper-addresses .ensures, c .before .before .before .before .before .before .before .before .before .upper-data .ensures, c .before .before .before .before .before .word-at .ensures, c .before .before .before .before .word-at2 .ensures, c .before .before .before .before .before .before .before .before .before .before .before .before .before .area .ensures, c .before .before .before .before .before .before .link-of .ensures, c .before .before .put-word .ensures)
+
+pub load-upper-spec : {M : Type 1} → statement M
+load-upper-spec =
+    tie.close
+    (tie.spec
+    (λ c κs. search needs)
+    upper-addresses-requires
+    upper-data-requires
+    (λ c. search needs)
+    (λ c. search needs)
+    (λ c κs. search needs)
+    word-at-requires
+    (λ c. search needs)
+    word-at-requires-2
+    (λ c. search needs)
+    (λ c. search needs)
+    (λ c κs. search needs)
+    (λ c. search needs)
+    returns)

@@ -1,0 +1,31 @@
+-- `contexts::restore::upper_data` meets its contract. Assumes nothing.
+use borrow.Author.Needs.{needs}
+use Rattle.memory.specs.Word.{wordsAt}
+use Rattle.contexts.proofs.restore.upper_data.Statement.{statement}
+use Rattle.contexts.proofs.restore.upper_data.Tie as tie
+
+returns : tie.Need-returns
+unfolding wordsAt
+returns c = rw (← c .before .before .before .before .before .before .before .word-at .ensures, ← c .before .before .before .before .before .before .word-at2 .ensures, ← c .before .before .before .before .before .word-at3 .ensures, ← c .before .before .before .before .word-at4 .ensures, ← c .before .before .before .word-at5 .ensures, ← c .before .before .word-at6 .ensures, ← c .before .word-at7 .ensures, ← c .word-at8 .ensures)
+
+pub upper-data-spec : {M : Type 1} → statement M
+upper-data-spec =
+    tie.close
+    (tie.spec
+    (λ c κs. search needs)
+    (λ c. search needs)
+    (λ c κs. search needs)
+    (λ c. search needs)
+    (λ c κs. search needs)
+    (λ c. search needs)
+    (λ c κs. search needs)
+    (λ c. search needs)
+    (λ c κs. search needs)
+    (λ c. search needs)
+    (λ c κs. search needs)
+    (λ c. search needs)
+    (λ c κs. search needs)
+    (λ c. search needs)
+    (λ c κs. search needs)
+    (λ c. search needs)
+    returns)

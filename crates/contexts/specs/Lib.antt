@@ -1,0 +1,4 @@
+-- Contexts.
+pub mod Context
+pub mod Save
+pub mod Restore

@@ -1,0 +1,80 @@
+-- A save (002, 4.3): the area at FCX, its context, and the heads of the lists.
+use Prim.Native.Nat.{ℕ}
+use mathlib.Core.Bool.{Bool, cond}
+use mathlib.Core.List.{List}
+use lib.ListN.{length, getD, set}
+use lib.Dec.{eqb}
+use Rattle.memory.specs.Memory.{Memory, memory}
+use Rattle.memory.specs.Word.{wordAt, putWords}
+use Rattle.areas.specs.Link.{linkOf, addressOf}
+use Rattle.areas.specs.Place.{placed}
+use Rattle.areas.specs.declared.link.Place.{Place}
+use Rattle.areas.specs.declared.link.Place.the-variants as place
+use Rattle.fields.specs.Pcxi.{pcxiOf}
+use Rattle.events.specs.declared.event.Stop.the-variants.{NoArea, Outside}
+use Rattle.contexts.specs.Context.{ulOf}
+use Rattle.contexts.specs.declared.context.Half.{Half}
+use Rattle.contexts.specs.declared.save.Room.{Room}
+use Rattle.contexts.specs.declared.save.Room.the-variants as room
+use Rattle.contexts.specs.declared.save.Saved.{Saved}
+use Rattle.contexts.specs.declared.save.Saved.the-variants.{Done, Depleted, Stops}
+
+abbrev pub roomBy : Place → Room
+roomBy (place.At at) = room.At at
+roomBy place.Outside = room.Stops Outside
+
+-- the area that a link word names, for a save: 11 where the link is 0, 12 where the area lies outside the window
+unfoldable pub roomAt : ℕ → ℕ → ℕ → Room
+roomAt base len word = cond (eqb (linkOf word .0) 0) (room.Stops NoArea) (roomBy (placed base len (addressOf (linkOf word))))
+
+abbrev pub roomOf : Memory → ℕ → Room
+roomOf m word = roomAt (m .base) (length (m .bytes)) word
+
+-- the core registers and the window's bytes after an area was taken
+pub record Taken : Type 0 where
+  pub core : List ℕ
+  pub bytes : List ℕ
+
+abbrev pub taken : List ℕ → List ℕ → Taken
+taken core bytes = record { core = core; bytes = bytes }
+
+-- the area's first word is read as the next FCX (low 20 bits, the others 0), the sixteen words are written, PCXI is set: PCPN = CCPN, PIE = IE, UL, link = the taken area
+unfoldable pub takeOf : Half → List ℕ → ℕ → List ℕ → List ℕ → Taken
+takeOf half words at core bytes =
+    let fcx = getD core 3 0 in
+    let icr = getD core 5 0 in
+    taken (set (set core 2 (pcxiOf icr (ulOf half) fcx)) 3 (linkOf (wordAt bytes at) .0)) (putWords bytes at words 16)
+
+-- what a save comes to, and the core registers and the memory after it
+pub record Saving : Type 0 where
+  pub saved : Saved
+  pub core : List ℕ
+  pub memory : Memory
+
+abbrev pub saving : Saved → List ℕ → Memory → Saving
+saving s core m = record { saved = s; core = core; memory = m }
+
+abbrev pub taking : Saved → ℕ → Taken → Saving
+taking s base t = saving s (t .core) (memory base (t .bytes))
+
+-- the area taken is LCX's: an FCD entry follows, if there is an area for it too
+abbrev pub depletedBy : Half → List ℕ → ℕ → List ℕ → Memory → Room → Saving
+depletedBy half words at core m (room.Stops s) = saving (Stops s) core m
+depletedBy half words at core m (room.At second) = taking Depleted (m .base) (takeOf half words at core (m .bytes))
+
+-- a save into the area at byte `at`
+unfoldable pub saveAtOf : Half → List ℕ → ℕ → List ℕ → Memory → Saving
+saveAtOf half words at core m =
+    let fcx = getD core 3 0 in
+    let lcx = getD core 4 0 in
+    cond (eqb (linkOf fcx .0) (linkOf lcx .0))
+    (depletedBy half words at core m (roomOf m (wordAt (m .bytes) at)))
+    (taking Done (m .base) (takeOf half words at core (m .bytes)))
+
+abbrev pub saveBy : Half → List ℕ → List ℕ → Memory → Room → Saving
+saveBy half words core m (room.Stops s) = saving (Stops s) core m
+saveBy half words core m (room.At at) = saveAtOf half words at core m
+
+-- a save of sixteen words into the area at FCX. A stop leaves all as it was
+unfoldable pub saveOf : Half → List ℕ → List ℕ → Memory → Saving
+saveOf half words core m = let fcx = getD core 3 0 in saveBy half words core m (roomOf m fcx)

@@ -1,0 +1,101 @@
+// A save: the area at FCX, its sixteen words, and the heads of the lists afterwards.
+
+use crate::context::Half;
+use crate::context::ul;
+use areas::area::next_link;
+use areas::area::write_area;
+use areas::link::Address;
+use areas::link::Place;
+use areas::link::link_of;
+use areas::link::locate;
+use events::event::Stop;
+use memory::word_at;
+use registers::FCX;
+use registers::ICR;
+use registers::LCX;
+use registers::PCXI;
+ghost use mathlib.Core.Path.{_≡_};
+ghost use Prim.Native.Nat.{_+_, _≤_};
+ghost use lib.ListN.{length};
+ghost use Rattle.memory.specs.Memory.{memory};
+ghost use Rattle.contexts.specs.Save.{roomAt, taken, takeOf, saving, saveAtOf, saveOf};
+
+// The area for a save, or why there is none.
+pub enum Room {
+    At(usize),
+    Stops(Stop),
+}
+
+pub enum Saved {
+    Done,
+    // the area taken is the one that LCX names: an FCD entry follows, and there is an area for it
+    Depleted,
+    Stops(Stop),
+}
+
+// The area that a link word names, for a save.
+pub fn find(base: u32, len: usize, word: u32) -> Room
+    ensures { λ r. ⌜ r ≡ roomAt base len word ⌝ }
+{
+    let l = link_of(word);
+    if l.0 == 0 {
+        return Room::Stops(Stop::NoArea);
+    }
+    match locate(Address(base), len, l) {
+        Place::At(at) => Room::At(at),
+        Place::Outside => Room::Stops(Stop::Outside),
+    }
+}
+
+// Takes the area: its first word is the next FCX, the context is written, PCXI names the area.
+pub fn take(window: &mut [u8], core: &mut [u32; 10], at: usize, half: Half, words: [u32; 16])
+    requires { ⌜ at + 64 ≤ length (now window) ⌝ }
+    ensures { λ _. ⌜ taken (now (core .exit)) (now (window .exit)) ≡ takeOf half words at (now (core .entry)) (now (window .entry)) ⌝ }
+{
+    let next = next_link(window, at);
+    write_area(window, at, words);
+    core[PCXI] = fields::pcxi::saved(core[ICR], ul(half), core[FCX]);
+    core[FCX] = next.0;
+}
+
+// A save. Nothing is written before it is known that neither it nor an FCD entry after it stops.
+pub fn save(
+    base: u32,
+    window: &mut [u8],
+    core: &mut [u32; 10],
+    half: Half,
+    words: [u32; 16],
+) -> Saved
+    ensures { λ r. ⌜ saving r (now (core .exit)) (memory base (now (window .exit))) ≡ saveOf half words (now (core .entry)) (memory base (now (window .entry))) ⌝ }
+{
+    match find(base, window.len(), core[FCX]) {
+        Room::Stops(s) => Saved::Stops(s),
+        Room::At(at) => save_at(base, window, core, at, half, words),
+    }
+}
+
+fn save_at(
+    base: u32,
+    window: &mut [u8],
+    core: &mut [u32; 10],
+    at: usize,
+    half: Half,
+    words: [u32; 16],
+) -> Saved
+    requires { ⌜ at + 64 ≤ length (now window) ⌝ }
+    ensures { λ r. ⌜ saving r (now (core .exit)) (memory base (now (window .exit))) ≡ saveAtOf half words at (now (core .entry)) (memory base (now (window .entry))) ⌝ }
+{
+    let taken = link_of(core[FCX]);
+    let limit = link_of(core[LCX]);
+    if taken.0 == limit.0 {
+        return match find(base, window.len(), word_at(window, at)) {
+            Room::Stops(s) => Saved::Stops(s),
+            Room::At(_) => {
+                take(window, core, at, half, words);
+                Saved::Depleted
+            }
+        };
+    }
+    take(window, core, at, half, words);
+    Saved::Done
+}

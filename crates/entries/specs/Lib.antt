@@ -1,0 +1,2 @@
+-- Entries.
+pub mod Entry

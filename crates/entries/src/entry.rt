@@ -1,0 +1,95 @@
+// The entries: a save of the upper context, and the registers set.
+
+use crate::setting::enter_interrupt;
+use crate::setting::enter_trap;
+use contexts::context::Half;
+use contexts::context::upper;
+use contexts::save::Room;
+use contexts::save::Saved;
+use contexts::save::find;
+use contexts::save::save;
+use contexts::save::take;
+use events::event::Ending;
+use events::event::Event;
+use events::trap::FCD;
+use events::trap::Trap;
+use registers::FCX;
+use registers::PC;
+ghost use mathlib.Core.Path.{_≡_};
+ghost use Rattle.memory.specs.Memory.{memory};
+ghost use Rattle.registers.specs.Registers.{registers};
+ghost use Rattle.entries.specs.Entry.{made, fcdOf, trapOf, interruptOf};
+
+// The FCD entry after a step's save: it works on the state that the step had reached.
+pub fn enter_fcd(
+    base: u32,
+    window: &mut [u8],
+    d: &mut [u32; 16],
+    a: &mut [u32; 16],
+    core: &mut [u32; 10],
+) -> Ending
+    ensures { λ r. ⌜ made r (registers (now (d .exit)) (now (a .exit)) (now (core .exit))) (memory base (now (window .exit))) ≡ fcdOf (registers (now (d .entry)) (now (a .entry)) (now (core .entry))) (memory base (now (window .entry))) ⌝ }
+{
+    match find(base, window.len(), core[FCX]) {
+        Room::Stops(s) => Ending::Stopped(s),
+        Room::At(at) => {
+            let words = upper(d, a, core);
+            take(window, core, at, Half::Upper, words);
+            let pc = core[PC];
+            enter_trap(d, a, core, FCD, pc);
+            Ending::Made(Event::Trap(FCD))
+        }
+    }
+}
+
+// A trap, with the return address.
+pub fn trap(
+    base: u32,
+    window: &mut [u8],
+    d: &mut [u32; 16],
+    a: &mut [u32; 16],
+    core: &mut [u32; 10],
+    t: Trap,
+    back: u32,
+) -> Ending
+    ensures { λ r. ⌜ made r (registers (now (d .exit)) (now (a .exit)) (now (core .exit))) (memory base (now (window .exit))) ≡ trapOf t back (registers (now (d .entry)) (now (a .entry)) (now (core .entry))) (memory base (now (window .entry))) ⌝ }
+{
+    let words = upper(d, a, core);
+    match save(base, window, core, Half::Upper, words) {
+        Saved::Stops(s) => Ending::Stopped(s),
+        Saved::Done => {
+            enter_trap(d, a, core, t, back);
+            Ending::Made(Event::Trap(t))
+        }
+        Saved::Depleted => {
+            enter_trap(d, a, core, t, back);
+            enter_fcd(base, window, d, a, core)
+        }
+    }
+}
+
+// An interrupt from a source, with its priority number.
+pub fn interrupt(
+    base: u32,
+    window: &mut [u8],
+    d: &mut [u32; 16],
+    a: &mut [u32; 16],
+    core: &mut [u32; 10],
+    source: u8,
+    level: u8,
+) -> Ending
+    ensures { λ r. ⌜ made r (registers (now (d .exit)) (now (a .exit)) (now (core .exit))) (memory base (now (window .exit))) ≡ interruptOf source level (registers (now (d .entry)) (now (a .entry)) (now (core .entry))) (memory base (now (window .entry))) ⌝ }
+{
+    let words = upper(d, a, core);
+    match save(base, window, core, Half::Upper, words) {
+        Saved::Stops(s) => Ending::Stopped(s),
+        Saved::Done => {
+            enter_interrupt(d, a, core, level);
+            Ending::Made(Event::Interrupt(source))
+        }
+        Saved::Depleted => {
+            enter_interrupt(d, a, core, level);
+            enter_fcd(base, window, d, a, core)
+        }
+    }
+}

@@ -1,0 +1,3 @@
+-- Events, traps and stops.
+pub mod Traps
+pub mod Events

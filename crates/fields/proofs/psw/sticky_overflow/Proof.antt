@@ -1,0 +1,13 @@
+-- `fields::psw::sticky_overflow` meets its contract. Assumes nothing.
+use mathlib.Core.Path.{refl}
+use Rattle.words.specs.Bits.{bit}
+use Rattle.fields.specs.Field.{isSet}
+use Rattle.fields.proofs.psw.sticky_overflow.Statement.{statement}
+use Rattle.fields.proofs.psw.sticky_overflow.Tie as tie
+
+returns : tie.Need-returns
+unfolding isSet bit
+returns c = refl
+
+pub sticky-overflow-spec : {M : Type 1} → statement M
+sticky-overflow-spec = tie.close (tie.spec returns)

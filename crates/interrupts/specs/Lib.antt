@@ -1,0 +1,2 @@
+-- The interrupt sources.
+pub mod Sources

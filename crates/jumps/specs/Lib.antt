@@ -1,0 +1,2 @@
+-- Jumps.
+pub mod Jumps

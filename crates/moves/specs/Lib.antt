@@ -1,0 +1,2 @@
+-- Integer operations on the registers, and moves.
+pub mod Moves

@@ -1,0 +1,4 @@
+-- Laws that the proofs of several functions cite.
+pub mod Ranges
+pub mod Searches
+pub mod Checks

@@ -1,0 +1,48 @@
+-- Memory access checking (002, 7.3): class 1 of the traps of a read, a write or a fetch.
+use Prim.Native.Nat.{ℕ}
+use mathlib.Core.Path.{_≡_}
+use mathlib.Core.Bool.{Bool, true, false, cond, not, _&&_, _||_}
+use mathlib.Core.List.{List}
+use lib.ListN.{getD}
+use lib.Dec.{leb}
+use Rattle.fields.specs.Psw.{PSW·PRS, isUser0}
+use Rattle.fields.specs.Syscon.{SYSCON·PROTEN}
+use Rattle.events.specs.Traps.{MPR, MPW, MPX, MPP}
+use Rattle.events.specs.declared.trap.Trap.{Trap}
+use Rattle.protection.specs.Range.{permitted, PermittedBy}
+use Rattle.protection.specs.declared.range.Range.{Range}
+use Rattle.protection.specs.declared.range.Right.{Right}
+use Rattle.protection.specs.declared.range.Right.the-variants.{Read, Write, Execute}
+use Rattle.protection.specs.declared.access.Check.{Check}
+use Rattle.protection.specs.declared.access.Check.the-variants.{Passes, Fails}
+
+-- read, write, fetch in no permitting range
+abbrev pub deniedOf : Right → Trap
+deniedOf Read = MPR
+deniedOf Write = MPW
+deniedOf Execute = MPX
+
+-- the two upper segments, E and F, are those of the peripherals
+abbrev pub peripheral : ℕ → Bool
+peripheral address = leb 0xE000_0000 address
+
+-- segments E and F skip the ranges, and are not for User-0. The ranges are those of set PRS, only when protection is on, and only the first byte counts
+unfoldable pub checkOf : List ℕ → List Range → Right → ℕ → Check
+checkOf core rs right address =
+    let psw = getD core 1 0 in
+    let syscon = getD core 9 0 in
+    cond (peripheral address) (cond (isUser0 psw) (Fails MPP) Passes)
+    (cond (not (SYSCON·PROTEN syscon) || permitted rs (PSW·PRS psw) right address) Passes (Fails (deniedOf right)))
+
+-- the ranges are asked
+abbrev pub asks : List ℕ → ℕ → Bool
+asks core address = not (peripheral address) && SYSCON·PROTEN (getD core 9 0)
+
+abbrev pub NotesBy : Bool → List ℕ → List Range → Right → ℕ → ℕ → ℕ → Type 0
+NotesBy true core rs right address old new = PermittedBy rs (PSW·PRS (getD core 1 0)) right address new
+NotesBy false core rs right address old new = new ≡ old
+
+-- where the ranges are asked and permit, the number noted is that of a permitting range; otherwise it is as it was
+abbrev pub Notes : List ℕ → List Range → Right → ℕ → ℕ → ℕ → Type 0
+Notes core rs right address old new =
+    NotesBy (asks core address && permitted rs (PSW·PRS (getD core 1 0)) right address) core rs right address old new

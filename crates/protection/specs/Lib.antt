@@ -1,0 +1,3 @@
+-- Memory protection.
+pub mod Range
+pub mod Access

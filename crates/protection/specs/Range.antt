@@ -1,0 +1,69 @@
+-- The protection ranges (002, 3.8, Figures 28 and 29, and 7.1.2).
+use Prim.Native.Nat.{ℕ, zero, suc, _+_, _*_, _≤_, _<_}
+use mathlib.Core.Path.{_≡_}
+use mathlib.Core.Bool.{Bool, true, false, _&&_, _||_}
+use mathlib.Core.List.{List, [], _∷_}
+use lib.ListN.{getD}
+use lib.Dec.{ltb, leb}
+use Rattle.fields.specs.Field.{isSet}
+use Rattle.protection.specs.declared.range.Range.{Range}
+use Rattle.protection.specs.declared.range.Right.{Right}
+use Rattle.protection.specs.declared.range.Right.the-variants.{Read, Write, Execute}
+use Rattle.protection.specs.declared.range.Found.{Found}
+use Rattle.protection.specs.declared.range.Found.the-variants.{By, Nothing}
+
+-- range k of 96 words, three to a range
+abbrev pub rangeAt : List ℕ → ℕ → Range
+rangeAt ws k = record { lower = getD ws (3 * k) 0; upper = getD ws (3 * k + 1) 0; mode = getD ws (3 * k + 2) 0 }
+
+-- n ranges from range k on
+abbrev pub rangesFrom : ℕ → ℕ → List ℕ → List Range
+rangesFrom zero k ws = []
+rangesFrom (suc n) k ws = rangeAt ws k ∷ rangesFrom n (k + 1) ws
+
+-- the 32 ranges that the words hold
+unfoldable pub rangesIn : List ℕ → List Range
+rangesIn ws = rangesFrom 32 0 ws
+
+abbrev pub noRange : Range
+noRange = record { lower = 0; upper = 0; mode = 0 }
+
+-- the enable bit of a right in a range's mode: RE 6 and WE 7 of a data range, XE 7 of a code range
+unfoldable pub enables : ℕ → Right → Bool
+enables mode Read = isSet 6 mode
+enables mode Write = isSet 7 mode
+enables mode Execute = isSet 7 mode
+
+-- lower bound ≤ address < upper bound, with the right
+unfoldable pub permits : Range → Right → ℕ → Bool
+permits g right address = leb (g .lower) address && ltb address (g .upper) && enables (g .mode) right
+
+-- the number of a set's first range: its four data ranges, then its four code ranges
+unfoldable pub firstOf : ℕ → Right → ℕ
+firstOf set Read = 8 * set
+firstOf set Write = 8 * set
+firstOf set Execute = 8 * set + 4
+
+-- range k permits the access
+abbrev pub permitsAt : List Range → ℕ → Right → ℕ → Bool
+permitsAt rs k right address = permits (getD rs k noRange) right address
+
+-- one of n ranges from range k on permits it
+unfoldable pub anyFrom : ℕ → ℕ → List Range → Right → ℕ → Bool
+anyFrom zero k rs right address = false
+anyFrom (suc n) k rs right address = permitsAt rs k right address || anyFrom n (k + 1) rs right address
+
+-- one of the set's four ranges permits it
+abbrev pub permitted : List Range → ℕ → Right → ℕ → Bool
+permitted rs set right address = anyFrom 4 (firstOf set right) rs right address
+
+-- the free answer: range k is of the set, and permits the access
+pub record PermittedBy (rs : List Range) (set : ℕ) (right : Right) (address k : ℕ) : Type 0 where
+  pub from : firstOf set right ≤ k
+  pub to : k < firstOf set right + 4
+  pub permits-it : permitsAt rs k right address ≡ true
+
+-- a search answers with a permitting range, or that none permits
+abbrev pub Answers : List Range → ℕ → Right → ℕ → Found → Type 0
+Answers rs set right address (By k) = PermittedBy rs set right address k
+Answers rs set right address Nothing = permitted rs set right address ≡ false

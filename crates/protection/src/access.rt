@@ -1,0 +1,65 @@
+// What protection says of an access: the traps of class 1.
+
+use crate::range::Found;
+use crate::range::Right;
+use crate::range::search;
+use events::trap::MPP;
+use events::trap::MPR;
+use events::trap::MPW;
+use events::trap::MPX;
+use events::trap::Trap;
+use registers::PSW;
+use registers::SYSCON;
+ghost use mathlib.Core.Path.{_≡_};
+ghost use lib.ListN.{length};
+ghost use Rattle.protection.specs.Range.{rangesIn};
+ghost use Rattle.protection.specs.Access.{deniedOf, checkOf, Notes};
+
+pub enum Check {
+    Passes,
+    Fails(Trap),
+}
+
+// The trap of an access that no range permits.
+fn denied(right: Right) -> Trap
+    ensures { λ r. ⌜ r ≡ deniedOf right ⌝ }
+{
+    match right {
+        Right::Read => MPR,
+        Right::Write => MPW,
+        Right::Execute => MPX,
+    }
+}
+
+// Checks the access to an address. Where protection asks and permits, `permit` is the number of a range that permits it.
+pub fn check_access(
+    core: &[u32; 10],
+    words: &[u32; 96],
+    right: Right,
+    address: u32,
+    permit: &mut usize,
+) -> Check
+    ensures { λ r. ⌜ (r ≡ checkOf (now (core .entry)) (rangesIn (now (words .entry))) right address) × Notes (now (core .entry)) (rangesIn (now (words .entry))) right address (now (permit .entry)) (now (permit .exit)) ⌝ }
+{
+    if 0xE000_0000 <= address {
+        if fields::psw::user0(core[PSW]) {
+            return Check::Fails(MPP);
+        }
+        return Check::Passes;
+    }
+    if !fields::syscon::protection(core[SYSCON]) {
+        return Check::Passes;
+    }
+    match search(
+        words,
+        fields::psw::protection_set(core[PSW]),
+        right,
+        address,
+    ) {
+        Found::Nothing => Check::Fails(denied(right)),
+        Found::By(k) => {
+            *permit = k;
+            Check::Passes
+        }
+    }
+}

@@ -1,0 +1,2 @@
+-- The registers.
+pub mod Registers

@@ -1,0 +1,4 @@
+// The system instructions.
+
+pub mod core_registers;
+pub mod instructions;
