@@ -12,7 +12,7 @@ use Rattle.areas.specs.declared.link.Place.the-variants.{At, Outside}
 use Rattle.operations.specs.declared.Load.{Load}
 use Rattle.operations.specs.declared.Load.the-variants.{LdB, LdBu, LdH, LdHu, LdW, LdA}
 use Rattle.image.specs.declared.fetch.Instruction.{Instruction}
-use Rattle.registers.specs.Registers.{registers, psw, withD, withA, withPc, plusOf, guards}
+use Rattle.registers.specs.Registers.{psw, withD, withA, withPc, plusOf, guards}
 use Rattle.registers.specs.declared.Registers.{Registers}
 use Rattle.events.specs.Traps.{GRWP, ALN, DATA}
 use Rattle.protection.specs.Access.{checkOf}

@@ -13,7 +13,6 @@ use operations::Context;
 use registers::PC;
 use registers::plus;
 ghost use mathlib.Core.Path.{_≡_};
-ghost use Prim.Native.Nat.{_<_};
 ghost use Rattle.memory.specs.Memory.{memory};
 ghost use Rattle.registers.specs.Registers.{registers};
 ghost use Rattle.image.specs.Fetch.{FieldsHold};

@@ -23,7 +23,6 @@ ghost use mathlib.Core.Path.{_≡_};
 ghost use Rattle.memory.specs.Memory.{memory};
 ghost use Rattle.registers.specs.Registers.{registers, withPc};
 ghost use Rattle.acts.specs.Acts.{did, performOf, Return};
-ghost use Rattle.contexts.specs.declared.context.Half.the-variants as half;
 ghost use Rattle.calls.specs.Returns.{isOf, previousOf, retOf, rfeOf, rslcxOf};
 
 // Whether there is a context of that half to return to.

@@ -15,7 +15,6 @@ use Rattle.areas.proofs.Places.{placed-at}
 use Rattle.events.specs.declared.event.Stop.{Stop}
 use Rattle.events.specs.declared.event.Stop.the-variants.{NoArea, Outside}
 use Rattle.contexts.specs.Save.{roomBy, roomAt}
-use Rattle.contexts.specs.declared.save.Room.{Room}
 use Rattle.contexts.specs.declared.save.Room.the-variants as room
 
 never : {s : Stop} {at : ℕ} → room.Stops s ≡ room.At at → ⊥

@@ -1,11 +1,10 @@
 -- A return (002, 4.3): the area at PCXI's link is loaded, and FCX is written over its first word.
 use Prim.Native.Nat.{ℕ}
 use mathlib.Core.List.{List}
-use lib.ListN.{length, set}
 use lib.Seq.{sets}
 use Rattle.memory.specs.Memory.{Memory, memory}
 use Rattle.memory.specs.Word.{wordAt, wordsAt, putWord}
-use Rattle.areas.specs.Link.{linkOf, addressOf}
+use Rattle.areas.specs.Link.{linkOf}
 use Rattle.areas.specs.Place.{placeOf}
 use Rattle.areas.specs.Area.{areaAt}
 use Rattle.areas.specs.declared.link.Place.{Place}

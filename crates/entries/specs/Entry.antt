@@ -1,6 +1,6 @@
 -- The entries of interrupts and traps (002, 5.4 and 6.2), and the FCD entry.
 use Prim.Native.Nat.{ℕ, _*_}
-use mathlib.Core.Bool.{Bool, false, cond}
+use mathlib.Core.Bool.{false, cond}
 use mathlib.Core.List.{List}
 use lib.Bits.{bitOr}
 use Rattle.memory.specs.Memory.{Memory, memory}
@@ -15,7 +15,7 @@ use Rattle.events.specs.declared.event.Event.the-variants as event
 use Rattle.events.specs.declared.event.Ending.{Ending}
 use Rattle.events.specs.declared.event.Ending.the-variants.{Made, Stopped}
 use Rattle.contexts.specs.Context.{upperOf}
-use Rattle.contexts.specs.Save.{Saving, roomOf, takeOf, saveOf}
+use Rattle.contexts.specs.Save.{roomOf, takeOf, saveOf}
 use Rattle.contexts.specs.declared.context.Half.the-variants.{Upper}
 use Rattle.contexts.specs.declared.save.Room.{Room}
 use Rattle.contexts.specs.declared.save.Room.the-variants as room

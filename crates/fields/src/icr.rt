@@ -1,7 +1,6 @@
 // ICR, the Interrupt Control Register (002, 3.6.1).
 
 ghost use mathlib.Core.Path.{_≡_};
-ghost use Prim.Native.Nat.{_<_};
 ghost use Rattle.fields.specs.Icr.{ICR·IE, ICR·CCPN, icrOf};
 
 // IE, bit 8.

@@ -1,7 +1,6 @@
 // PCXI, the Previous Context Information (002, 3.3.3).
 
 ghost use mathlib.Core.Path.{_≡_};
-ghost use Prim.Native.Nat.{_<_};
 ghost use Rattle.fields.specs.Pcxi.{PCXI·PCPN, PCXI·PIE, PCXI·UL, pcxiOf};
 
 // PCPN, bits 31:24.

@@ -5,19 +5,7 @@ ghost use Prim.Native.Nat.{_+_, _*_, _≤_, _<_};
 ghost use mathlib.Core.Bool.{_||_};
 ghost use lib.Dec.{eqb};
 ghost use Rattle.words.specs.Bits.{number};
-ghost use Rattle.fields.specs.Psw.{
-  PSW·C,
-  PSW·V,
-  PSW·SV,
-  PSW·PRS,
-  PSW·IS,
-  PSW·GW,
-  isUser0,
-  isSupervisor,
-  flaggedOf,
-  overflowedOf,
-  resetOf,
-};
+ghost use Rattle.fields.specs.Psw.{PSW·C, PSW·V, PSW·SV, PSW·PRS, PSW·IS, PSW·GW, isUser0, isSupervisor, flaggedOf, overflowedOf, resetOf};
 
 // C, bit 31.
 pub fn carry(psw: u32) -> bool

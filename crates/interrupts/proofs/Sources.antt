@@ -10,7 +10,7 @@ use mathlib.Core.List.{List}
 use lib.ListN.{getD}
 use lib.Dec.{ltb}
 use borrow.Author.Tests.{ltb-true, ltb-false}
-use Rattle.words.proofs.Truth.{never, both-true}
+use Rattle.words.proofs.Truth.{never}
 use Rattle.fields.specs.Request.{SRC·SRPN, requests}
 use Rattle.interrupts.specs.Sources.{best, betterOf, bestBelow, bestOf, Highest}
 use Rattle.interrupts.specs.declared.Best.{Best}

@@ -1,7 +1,6 @@
 -- The jumps and LOOP (002, 8.6 and chapter 9).
 use Prim.Native.Nat.{ℕ}
 use mathlib.Core.Bool.{Bool, true, not, cond}
-use lib.Dec.{eqb}
 use Rattle.compare.specs.Compare.{equals, lessSigned, lessUnsigned}
 use Rattle.operations.specs.declared.Jump.{Jump}
 use Rattle.operations.specs.declared.Jump.the-variants.{J, Jl, Ji, Jeq, Jne, Jlt, JltU, Jge, JgeU, Loop}

@@ -15,7 +15,6 @@ use registers::new_pc;
 use registers::plus;
 use registers::second;
 ghost use mathlib.Core.Path.{_≡_};
-ghost use Prim.Native.Nat.{_<_};
 ghost use Rattle.registers.specs.Registers.{registers};
 ghost use Rattle.image.specs.Fetch.{FieldsHold};
 ghost use Rattle.acts.specs.Acts.{ended};

@@ -11,7 +11,6 @@ use events::trap::Trap;
 use registers::PSW;
 use registers::SYSCON;
 ghost use mathlib.Core.Path.{_≡_};
-ghost use lib.ListN.{length};
 ghost use Rattle.protection.specs.Range.{rangesIn};
 ghost use Rattle.protection.specs.Access.{deniedOf, checkOf, Notes};
 

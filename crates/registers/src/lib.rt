@@ -1,7 +1,7 @@
 // The registers of the core (002, chapter 3).
 
 ghost use mathlib.Core.Path.{_≡_};
-ghost use Prim.Native.Nat.{_≤_, _<_};
+ghost use Prim.Native.Nat.{_≤_};
 ghost use Rattle.registers.specs.Registers.{secondOf, plusOf, minusOf, even, isGlobal, guards};
 
 // D0 to D15, A0 to A15, and the ten core registers under the indices below.

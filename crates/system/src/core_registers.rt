@@ -11,7 +11,6 @@ use registers::PCXI;
 use registers::PSW;
 use registers::SYSCON;
 ghost use mathlib.Core.Path.{_≡_};
-ghost use lib.ListN.{length};
 ghost use Rattle.system.specs.CoreRegisters.{namedOf, Known, readOf, writtenOf};
 
 pub enum Named {

@@ -13,7 +13,6 @@ use registers::ICR;
 use registers::PC;
 use registers::PSW;
 ghost use mathlib.Core.Path.{_≡_};
-ghost use Prim.Native.Nat.{_<_};
 ghost use Rattle.registers.specs.Registers.{registers};
 ghost use Rattle.image.specs.Fetch.{FieldsHold};
 ghost use Rattle.acts.specs.Acts.{ended};

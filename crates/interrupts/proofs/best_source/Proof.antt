@@ -1,6 +1,6 @@
 -- `interrupts::best_source` meets its contract. Assumes nothing.
 use borrow.Author.Needs.{needs}
-use Prim.Native.Nat.{ℕ, _-_, _≤_, _<_}
+use Prim.Native.Nat.{ℕ, _-_, _≤_}
 use mathlib.Core.Path.{_≡_, refl, subst, _∙_}
 use Rattle.interrupts.specs.Sources.{bestBelow, bestOf}
 use Rattle.interrupts.proofs.Sources.{turn, highest}

@@ -1,6 +1,6 @@
 -- `accesses::load::load_at` meets its contract. Assumes nothing.
 use borrow.Author.Needs.{needs}
-use mathlib.Core.Path.{_≡_, refl, sym, ap, _∙_}
+use mathlib.Core.Path.{sym, _∙_}
 use Rattle.areas.proofs.Places.{place-found}
 use Rattle.accesses.specs.Load.{loadAtOf}
 use Rattle.accesses.proofs.load.load_at.Statement.{statement}

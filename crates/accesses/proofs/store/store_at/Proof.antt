@@ -1,6 +1,6 @@
 -- `accesses::store::store_at` meets its contract. Assumes nothing.
 use borrow.Author.Needs.{needs}
-use mathlib.Core.Path.{_≡_, refl, sym, ap, _∙_}
+use mathlib.Core.Path.{sym, _∙_}
 use Rattle.areas.proofs.Places.{place-found}
 use Rattle.accesses.specs.Store.{storeAtOf}
 use Rattle.accesses.proofs.store.store_at.Statement.{statement}

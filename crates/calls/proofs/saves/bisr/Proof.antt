@@ -1,6 +1,6 @@
 -- `calls::saves::bisr` meets its contract. Assumes nothing.
 use borrow.Author.Needs.{needs}
-use mathlib.Core.Path.{_≡_, refl, sym, ap, _∙_}
+use mathlib.Core.Path.{sym, _∙_}
 use borrow.Author.Tests.{not-true, not-false}
 use Rattle.calls.specs.Saves.{bisrOf}
 use Rattle.calls.proofs.saves.bisr.Statement.{statement}

@@ -1,6 +1,6 @@
 -- `contexts::context::lower` meets its contract. Assumes nothing.
 use borrow.Author.Needs.{needs}
-use mathlib.Core.Path.{_≡_, refl, sym, _∙_}
+use mathlib.Core.Path.{refl}
 use Rattle.contexts.specs.Context.{lowerOf}
 use Rattle.contexts.proofs.context.lower.Statement.{statement}
 use Rattle.contexts.proofs.context.lower.Tie as tie

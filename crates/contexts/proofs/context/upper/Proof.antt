@@ -1,6 +1,6 @@
 -- `contexts::context::upper` meets its contract. Assumes nothing.
 use borrow.Author.Needs.{needs}
-use mathlib.Core.Path.{_≡_, refl, sym, _∙_}
+use mathlib.Core.Path.{refl}
 use Rattle.contexts.specs.Context.{upperOf}
 use Rattle.contexts.proofs.context.upper.Statement.{statement}
 use Rattle.contexts.proofs.context.upper.Tie as tie

@@ -1,6 +1,6 @@
 -- `contexts::restore::load_lower` meets its contract. Assumes nothing.
 use borrow.Author.Needs.{needs}
-use mathlib.Core.Path.{_≡_, refl, sym, ap, _∙_}
+use mathlib.Core.Path.{ap, _∙_}
 use lib.ListN.{length}
 use Rattle.areas.proofs.Parts.{area-length}
 use Rattle.contexts.specs.Restore.{loadOf}

@@ -1,6 +1,6 @@
 -- `contexts::restore::restore` meets its contract. Assumes nothing.
 use borrow.Author.Needs.{needs}
-use mathlib.Core.Path.{_≡_, refl, sym, ap, _∙_}
+use mathlib.Core.Path.{sym, _∙_}
 use Rattle.areas.proofs.Places.{placed-at}
 use Rattle.contexts.specs.Restore.{returnOf}
 use Rattle.contexts.proofs.restore.restore.Statement.{statement}

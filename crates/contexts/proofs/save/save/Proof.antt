@@ -1,6 +1,6 @@
 -- `contexts::save::save` meets its contract. Assumes nothing.
 use borrow.Author.Needs.{needs}
-use mathlib.Core.Path.{_≡_, refl, sym, _∙_}
+use mathlib.Core.Path.{sym, _∙_}
 use Rattle.contexts.proofs.Rooms.{room-inside}
 use Rattle.contexts.specs.Save.{saveOf}
 use Rattle.contexts.proofs.save.save.Statement.{statement}

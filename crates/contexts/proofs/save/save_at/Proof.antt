@@ -1,6 +1,6 @@
 -- `contexts::save::save_at` meets its contract. Assumes nothing.
 use borrow.Author.Needs.{needs}
-use mathlib.Core.Path.{_≡_, refl, sym, ap, _∙_}
+use mathlib.Core.Path.{sym, _∙_}
 use borrow.Author.Tests.{eq-eqb, ne-eqb}
 use Rattle.contexts.specs.Save.{saveAtOf}
 use Rattle.contexts.proofs.save.save_at.Statement.{statement}

@@ -1,6 +1,5 @@
 -- `contexts::save::take` meets its contract. Assumes nothing.
 use borrow.Author.Needs.{needs}
-use mathlib.Core.Path.{_≡_, refl, sym, _∙_}
 use Rattle.contexts.specs.Save.{takeOf}
 use Rattle.contexts.proofs.save.take.Statement.{statement}
 use Rattle.contexts.proofs.save.take.Tie as tie

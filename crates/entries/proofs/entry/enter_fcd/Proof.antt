@@ -1,6 +1,6 @@
 -- `entries::entry::enter_fcd` meets its contract. Assumes nothing.
 use borrow.Author.Needs.{needs}
-use mathlib.Core.Path.{_≡_, refl, sym, ap, _∙_}
+use mathlib.Core.Path.{sym, _∙_}
 use Rattle.contexts.proofs.Rooms.{room-inside}
 use Rattle.entries.specs.Entry.{fcdOf}
 use Rattle.entries.proofs.entry.enter_fcd.Statement.{statement}

@@ -1,5 +1,5 @@
 -- `fields::depth::counter_of` meets its contract. Assumes nothing.
-use Rattle.fields.proofs.Counters.{Counts, six, five, four, three, two, one, none}
+use Rattle.fields.proofs.Counters.{six, five, four, three, two, one, none}
 use Rattle.fields.proofs.depth.counter_of.Statement.{statement}
 use Rattle.fields.proofs.depth.counter_of.Tie as tie
 

@@ -1,5 +1,4 @@
 -- `fields::depth::counting` meets its contract. Assumes nothing.
-use mathlib.Core.Path.{refl}
 use borrow.Author.Tests.{eq-eqb, ne-eqb}
 use Rattle.words.specs.Bits.{bit}
 use Rattle.fields.specs.Field.{isSet}

@@ -1,6 +1,6 @@
 -- `fields::depth::overflows` meets its contract. Assumes nothing.
 use borrow.Author.Needs.{needs}
-use mathlib.Core.Path.{_≡_, sym, _∙_}
+use mathlib.Core.Path.{sym, _∙_}
 use Rattle.fields.specs.Depth.{overflowsUp}
 use Rattle.fields.proofs.Counters.{below}
 use Rattle.fields.proofs.depth.overflows.Statement.{statement}

@@ -1,6 +1,6 @@
 -- `protection::range::first` meets its contract. Assumes nothing.
 use borrow.Author.Needs.{needs}
-use mathlib.Core.Path.{_≡_, refl, sym, ap, _∙_}
+use mathlib.Core.Path.{refl}
 use Rattle.protection.specs.Range.{firstOf}
 use native.Mathlib.Omega.{arith}
 use Rattle.protection.proofs.range.first.Statement.{statement}

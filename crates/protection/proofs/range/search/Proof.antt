@@ -1,10 +1,9 @@
 -- `protection::range::search` meets its contract. Assumes nothing.
 use borrow.Author.Needs.{needs}
 use Prim.Native.Nat.{ℕ, _+_, _-_, _≤_, _<_}
-use mathlib.Core.Path.{_≡_, refl, sym, subst, _∙_}
-use mathlib.Core.Bool.{Bool, true, false}
+use mathlib.Core.Path.{_≡_}
+use mathlib.Core.Bool.{false}
 use mathlib.Core.Logic.{⊎-elim}
-use lib.ListN.{length, getD}
 use borrow.Author.Count.{below-none, below-more}
 use Rattle.protection.specs.Range.{rangesIn, permitsAt}
 use Rattle.protection.proofs.Searches.{none, seen, found}

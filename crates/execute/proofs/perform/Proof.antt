@@ -1,0 +1,62 @@
+-- `execute::perform` meets its contract. Assumes nothing.
+use borrow.Author.Needs.{needs}
+use mathlib.Core.Path.{refl}
+use Rattle.execute.proofs.Arms.{performs, notes}
+use Rattle.execute.proofs.perform.Statement.{statement}
+use Rattle.execute.proofs.perform.Tie as tie
+
+returns : tie.Need-returns
+returns c = (performs _ _ _ _ (c .enum-told .given .1) (refl), notes _ _ _ _ _ (c .enum-told .given .1) (refl))
+
+returns-2 : tie.Need-returns-2
+returns-2 c = (performs _ _ _ _ (c .before .before .before .before .before .op .given .1) (rw (← c .execute-integer .ensures)), notes _ _ _ _ _ (c .before .before .before .before .before .op .given .1) (refl))
+
+returns-3 : tie.Need-returns-3
+returns-3 c = (performs _ _ _ _ (c .before .before .before .before .before .op2 .given .1) (rw (← c .execute-move .ensures)), notes _ _ _ _ _ (c .before .before .before .before .before .op2 .given .1) (refl))
+
+returns-4 : tie.Need-returns-4
+returns-4 c = (performs _ _ _ _ (c .before .before .before .before .before .before .before .op3 .given .1) (rw (← c .execute-load .ensures .0)), notes _ _ _ _ _ (c .before .before .before .before .before .before .before .op3 .given .1) (c .execute-load .ensures .1))
+
+returns-5 : tie.Need-returns-5
+returns-5 c = (performs _ _ _ _ (c .before .before .before .before .before .before .before .before .before .op4 .given .1) (c .before .before .execute-store .ensures .0), notes _ _ _ _ _ (c .before .before .before .before .before .before .before .before .before .op4 .given .1) (c .before .before .execute-store .ensures .1))
+
+returns-6 : tie.Need-returns-6
+returns-6 c = (performs _ _ _ _ (c .before .before .before .before .before .op5 .given .1) (rw (← c .execute-jump .ensures)), notes _ _ _ _ _ (c .before .before .before .before .before .op5 .given .1) (refl))
+
+returns-7 : tie.Need-returns-7
+returns-7 c = (performs _ _ _ _ (c .before .before .before .before .before .before .before .before .op6 .given .1) (c .before .before .execute-context .ensures), notes _ _ _ _ _ (c .before .before .before .before .before .before .before .before .op6 .given .1) (refl))
+
+returns-8 : tie.Need-returns-8
+returns-8 c = (performs _ _ _ _ (c .before .before .before .before .before .op7 .given .1) (rw (← c .execute-system .ensures)), notes _ _ _ _ _ (c .before .before .before .before .before .op7 .given .1) (refl))
+
+pub perform-spec : {M : Type 1} → statement M
+perform-spec =
+    tie.close
+    (tie.spec
+    (λ c. search needs)
+    (λ c. search needs)
+    (λ c. search needs)
+    (λ c κs. search needs)
+    (λ c. search needs)
+    (λ c κs. search needs)
+    (λ c. search needs)
+    (λ c κs. search needs)
+    (λ c. search needs)
+    (λ c κs. search needs)
+    (λ c. search needs)
+    (λ c κs. search needs)
+    (λ c. search needs)
+    (λ c κs. search needs)
+    (λ c. search needs)
+    (λ c κs. search needs)
+    returns
+    returns-2
+    returns-3
+    (λ c. search needs)
+    returns-4
+    (λ c. search needs)
+    returns-5
+    returns-6
+    (λ c. search needs)
+    returns-7
+    returns-8)

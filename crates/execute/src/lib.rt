@@ -1,0 +1,102 @@
+// An instruction: what it does, and the entry that may follow it.
+
+use accesses::load::execute_load;
+use accesses::store::execute_store;
+use acts::How;
+use calls::instructions::execute_context;
+use entries::entry::enter_fcd;
+use entries::entry::trap;
+use events::event::Ending;
+use events::event::Event;
+use image::fetch::Instruction;
+use jumps::execute_jump;
+use moves::execute_integer;
+use moves::execute_move;
+use operations::Operation;
+use registers::PC;
+use system::instructions::execute_system;
+ghost use mathlib.Core.Path.{_≡_};
+ghost use Rattle.memory.specs.Memory.{memory};
+ghost use Rattle.registers.specs.Registers.{registers};
+ghost use Rattle.protection.specs.Range.{rangesIn};
+ghost use Rattle.image.specs.Fetch.{FieldsHold};
+ghost use Rattle.entries.specs.Entry.{made};
+ghost use Rattle.acts.specs.Acts.{did, performOf};
+ghost use Rattle.execute.specs.Execute.{actOf, DataNotes, finishOf, executeOf};
+
+// Decides what an instruction does, and performs it. `permit` is the number of a range that permitted its data access, where protection asked.
+fn perform(
+    base: u32,
+    window: &mut [u8],
+    d: &mut [u32; 16],
+    a: &mut [u32; 16],
+    core: &mut [u32; 10],
+    ranges: &[u32; 96],
+    permit: &mut usize,
+    i: Instruction,
+) -> How
+    requires { ⌜ FieldsHold i ⌝ }
+    ensures { λ r. ⌜ did r (registers (now (d .exit)) (now (a .exit)) (now (core .exit))) (memory base (now (window .exit))) ≡ performOf (actOf i (registers (now (d .entry)) (now (a .entry)) (now (core .entry))) (rangesIn (now (ranges .entry))) (memory base (now (window .entry)))) (registers (now (d .entry)) (now (a .entry)) (now (core .entry))) (memory base (now (window .entry))) ⌝ }
+    ensures { λ _. ⌜ DataNotes i (registers (now (d .entry)) (now (a .entry)) (now (core .entry))) (rangesIn (now (ranges .entry))) (now (permit .entry)) (now (permit .exit)) ⌝ }
+{
+    let op = i.op;
+    match op {
+        Operation::Nop => {
+            core[PC] = i.next;
+            How::Done
+        }
+        Operation::Integer(x) => {
+            execute_integer(d, a, core, x, i);
+            How::Done
+        }
+        Operation::Move(x) => execute_move(d, a, core, x, i),
+        Operation::Load(x) => execute_load(base, window, d, a, core, ranges, permit, x, i),
+        Operation::Store(x) => execute_store(base, window, d, a, core, ranges, permit, x, i),
+        Operation::Jump(x) => execute_jump(d, a, core, x, i),
+        Operation::Context(x) => execute_context(base, window, d, a, core, x, i),
+        Operation::System(x) => execute_system(d, a, core, x, i),
+    }
+}
+
+// The entry that follows, if any.
+fn finish(
+    base: u32,
+    window: &mut [u8],
+    d: &mut [u32; 16],
+    a: &mut [u32; 16],
+    core: &mut [u32; 10],
+    how: How,
+    next: u32,
+) -> Ending
+    ensures { λ r. ⌜ made r (registers (now (d .exit)) (now (a .exit)) (now (core .exit))) (memory base (now (window .exit))) ≡ finishOf next how (registers (now (d .entry)) (now (a .entry)) (now (core .entry))) (memory base (now (window .entry))) ⌝ }
+{
+    match how {
+        How::Done => Ending::Made(Event::Instruction),
+        How::Depleted => enter_fcd(base, window, d, a, core),
+        How::Trap(t) => {
+            let pc = core[PC];
+            trap(base, window, d, a, core, t, pc)
+        }
+        How::TrapAfter(t) => trap(base, window, d, a, core, t, next),
+        How::Stopped(s) => Ending::Stopped(s),
+    }
+}
+
+// An instruction with its traps.
+pub fn execute_instruction(
+    base: u32,
+    window: &mut [u8],
+    d: &mut [u32; 16],
+    a: &mut [u32; 16],
+    core: &mut [u32; 10],
+    ranges: &[u32; 96],
+    permit: &mut usize,
+    i: Instruction,
+) -> Ending
+    requires { ⌜ FieldsHold i ⌝ }
+    ensures { λ r. ⌜ made r (registers (now (d .exit)) (now (a .exit)) (now (core .exit))) (memory base (now (window .exit))) ≡ executeOf i (registers (now (d .entry)) (now (a .entry)) (now (core .entry))) (rangesIn (now (ranges .entry))) (memory base (now (window .entry))) ⌝ }
+    ensures { λ _. ⌜ DataNotes i (registers (now (d .entry)) (now (a .entry)) (now (core .entry))) (rangesIn (now (ranges .entry))) (now (permit .entry)) (now (permit .exit)) ⌝ }
+{
+    let how = perform(base, window, d, a, core, ranges, permit, i);
+    finish(base, window, d, a, core, how, i.next)
+}
