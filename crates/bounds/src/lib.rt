@@ -1,0 +1,1 @@
+// Laws alone: the values of the definitions are words.

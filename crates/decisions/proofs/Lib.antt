@@ -1,0 +1,13 @@
+-- Laws of a step.
+pub mod Setters
+pub mod Values
+pub mod Sound
+pub mod Families
+pub mod Systems
+pub mod Thens
+pub mod Acts
+pub mod Decides
+pub mod Memories
+pub mod Savings
+pub mod Returnings
+pub mod Steps

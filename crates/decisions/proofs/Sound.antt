@@ -1,0 +1,85 @@
+-- What a step leaves in the registers: words, an even PC, and the heads of the lists as they were.
+-- Assumes nothing.
+use Prim.Native.Nat.{ℕ, _%_, _^_, _<_}
+use native.Mathlib.Omega.{arith}
+use mathlib.Core.Path.{_≡_, refl, _∙_}
+use mathlib.Core.List.{List}
+use lib.ListN.{getD, set}
+use lib.Seq.{getD-set-other}
+use Rattle.registers.specs.Registers.{pc, pcxi, fcx, withD, withA, withPc, withPsw, withIcr}
+use Rattle.registers.specs.declared.Registers.{Registers}
+use Rattle.events.specs.declared.trap.Trap.{Trap}
+use Rattle.acts.specs.Acts.{Ended}
+use Rattle.acts.specs.declared.How.{How}
+use Rattle.acts.specs.declared.How.the-variants as how
+use Rattle.decisions.specs.Valid.{Valid}
+use Rattle.decisions.proofs.Values.{Word}
+use Rattle.decisions.proofs.Setters.{valid-d, valid-a, valid-core, valid-pc}
+
+pub record Heads (r q : Registers) : Type 0 where
+  pub fcx-same : fcx q ≡ fcx r
+  pub pcxi-same : pcxi q ≡ pcxi r
+
+-- `quiet` says that no head is written directly
+pub record Sound (quiet : Type 0) (r q : Registers) : Type 0 where
+  pub valid : Valid q
+  pub heads : quiet → Heads r q
+
+pub same-heads : {r : Registers} → Heads r r
+same-heads = record { fcx-same = refl; pcxi-same = refl }
+
+pub sound-start : {quiet : Type 0} {r : Registers} → Valid r → Sound quiet r r
+sound-start w = record { valid = w; heads = λ h. same-heads }
+
+module _ {quiet : Type 0} {r q : Registers} (s : Sound quiet r q) where
+  pub sound-d : (n v : ℕ) → Word v → Sound quiet r (withD n v q)
+  sound-d n v h = record { valid = valid-d (s .valid) n v h; heads = λ k. record { fcx-same = s .heads k .fcx-same; pcxi-same = s .heads k .pcxi-same } }
+
+  pub sound-a : (n v : ℕ) → Word v → Sound quiet r (withA n v q)
+  sound-a n v h = record { valid = valid-a (s .valid) n v h; heads = λ k. record { fcx-same = s .heads k .fcx-same; pcxi-same = s .heads k .pcxi-same } }
+
+  pub sound-psw : (v : ℕ) → Word v → Sound quiet r (withPsw v q)
+  sound-psw v h =
+      record {
+        valid = valid-core (s .valid) 1 v (omega arith) h;
+        heads = λ k. record {
+          fcx-same = getD-set-other (q .core) 1 3 v 0 (λ e. omega arith) ∙ s .heads k .fcx-same;
+          pcxi-same = getD-set-other (q .core) 1 2 v 0 (λ e. omega arith) ∙ s .heads k .pcxi-same;
+        };
+      }
+
+  pub sound-icr : (v : ℕ) → Word v → Sound quiet r (withIcr v q)
+  sound-icr v h =
+      record {
+        valid = valid-core (s .valid) 5 v (omega arith) h;
+        heads = λ k. record {
+          fcx-same = getD-set-other (q .core) 5 3 v 0 (λ e. omega arith) ∙ s .heads k .fcx-same;
+          pcxi-same = getD-set-other (q .core) 5 2 v 0 (λ e. omega arith) ∙ s .heads k .pcxi-same;
+        };
+      }
+
+  pub sound-pc : (v : ℕ) → Word v → v % 2 ≡ 0 → Sound quiet r (withPc v q)
+  sound-pc v h p =
+      record {
+        valid = valid-pc (s .valid) v h p;
+        heads = λ k. record {
+          fcx-same = getD-set-other (q .core) 0 3 v 0 (λ e. omega arith) ∙ s .heads k .fcx-same;
+          pcxi-same = getD-set-other (q .core) 0 2 v 0 (λ e. omega arith) ∙ s .heads k .pcxi-same;
+        };
+      }
+
+-- a trap's class and TIN are bytes
+pub record TrapBytes (t : Trap) : Type 0 where
+  pub class : t .class < 2 ^ 8
+  pub tin : t .tin < 2 ^ 8
+
+-- an instruction that neither saves nor returns: done, or trapped with the registers as they were
+abbrev pub EndsBy : Type 0 → Registers → How → Registers → Type 0
+EndsBy quiet r how.Done q = Sound quiet r q
+EndsBy quiet r (how.Trap t) q = (q ≡ r) × TrapBytes t
+EndsBy quiet r (how.TrapAfter t) q = (q ≡ r) × TrapBytes t
+EndsBy quiet r how.Depleted q = ⊥
+EndsBy quiet r (how.Stopped s) q = ⊥
+
+abbrev pub EndsSound : Type 0 → Registers → Ended → Type 0
+EndsSound quiet r e = EndsBy quiet r (e .how) (e .registers)
