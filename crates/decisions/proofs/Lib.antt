@@ -11,3 +11,5 @@ pub mod Memories
 pub mod Savings
 pub mod Returnings
 pub mod Steps
+pub mod Owned
+pub mod Known

@@ -1,0 +1,4 @@
+-- Laws of the run.
+pub mod Turns
+pub mod Permitting
+pub mod Singles

@@ -1,0 +1,46 @@
+-- A step is a run of one; and both, where the rules refuse.
+-- Assumes nothing.
+use Prim.Native.Nat.{ℕ}
+use native.Mathlib.Omega.{arith}
+use native.Mathlib.Nat.{zero-add}
+use mathlib.Core.Path.{_≡_, refl, sym, ap, _∙_}
+use mathlib.Core.List.{List}
+use Rattle.memory.specs.Memory.{Memory}
+use Rattle.registers.specs.Registers.{pc}
+use Rattle.registers.specs.declared.Registers.{Registers}
+use Rattle.events.specs.declared.event.Event.the-variants as event
+use Rattle.protection.specs.declared.range.Range.{Range}
+use Rattle.inputs.specs.Checks.{stepVerdict}
+use Rattle.inputs.specs.declared.verdict.Refusal.{Refusal}
+use Rattle.inputs.specs.declared.verdict.Verdict.the-variants.{Accepted, Refused}
+use Rattle.machine.specs.Step.{StepOf, stepped, stepOf}
+use Rattle.machine.specs.Run.{RunOf, ran, onward, runFrom, runOf}
+use Rattle.machine.specs.declared.answer.Outcome.{Outcome}
+use Rattle.machine.specs.declared.answer.Outcome.the-variants as outcome
+
+-- a run's answer without the steps made
+abbrev pub strip : RunOf → StepOf
+strip v = stepped (v .outcome) (v .registers) (v .requests) (v .memory)
+
+onward-one : (o : Outcome) (k : ℕ) (s : StepOf) → o ≡ s .outcome → strip (onward o 0 s (ran (s .outcome) k (s .registers) (s .requests) (s .memory))) ≡ s
+onward-one (outcome.Made e) k s h = refl
+onward-one (outcome.Stopped x) k s h = rw h
+onward-one (outcome.Refused x) k s h = rw h
+
+module _ (img : List ℕ) (r : Registers) (xs : List ℕ) (rs : List Range) (m : Memory) where
+  pub one-step : strip (runFrom 1 img rs (outcome.Made event.Instruction) 0 r xs m) ≡ stepOf img r xs rs m
+  unfolding runFrom
+  one-step = let s = stepOf img r xs rs m in onward-one (s .outcome) _ s refl
+
+  module _ (x : Refusal) (e : stepVerdict m img (pc r) ≡ Refused x) where
+    pub step-refused : stepOf img r xs rs m ≡ stepped (outcome.Refused x) r xs m
+    unfolding stepOf
+    step-refused = rw e
+
+    pub run-refused : (n : ℕ) → runOf n img r xs rs m ≡ ran (outcome.Refused x) 0 r xs m
+    unfolding runOf
+    run-refused n = rw e
+
+  pub run-accepted : (n : ℕ) → stepVerdict m img (pc r) ≡ Accepted → runOf n img r xs rs m ≡ runFrom n img rs (outcome.Made event.Instruction) 0 r xs m
+  unfolding runOf
+  run-accepted n e = rw e

@@ -1,0 +1,5 @@
+-- A step and a run.
+pub mod Step
+pub mod Run
+pub mod Permits
+pub mod Inner

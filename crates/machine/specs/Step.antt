@@ -1,0 +1,45 @@
+-- A step: refused by the rules 1 to 4, or stopped, with all as before; or made, with an event.
+use Prim.Native.Nat.{ℕ}
+use mathlib.Core.List.{List}
+use Rattle.memory.specs.Memory.{Memory}
+use Rattle.registers.specs.Registers.{pc}
+use Rattle.registers.specs.declared.Registers.{Registers}
+use Rattle.events.specs.declared.event.Ending.{Ending}
+use Rattle.events.specs.declared.event.Ending.the-variants as ending
+use Rattle.protection.specs.declared.range.Range.{Range}
+use Rattle.inputs.specs.Checks.{stepVerdict}
+use Rattle.inputs.specs.declared.verdict.Verdict.{Verdict}
+use Rattle.inputs.specs.declared.verdict.Verdict.the-variants as verdict
+use Rattle.decisions.specs.Phases.{oneOf, requestsOf}
+use Rattle.machine.specs.declared.answer.Outcome.{Outcome}
+use Rattle.machine.specs.declared.answer.Outcome.the-variants.{Made, Stopped, Refused}
+
+abbrev pub outcomeOf : Ending → Outcome
+outcomeOf (ending.Made e) = Made e
+outcomeOf (ending.Stopped s) = Stopped s
+
+-- the outcome, and registers, requests and memory after the step
+pub record StepOf : Type 0 where
+  pub outcome : Outcome
+  pub registers : Registers
+  pub requests : List ℕ
+  pub memory : Memory
+
+abbrev pub stepped : Outcome → Registers → List ℕ → Memory → StepOf
+stepped o r xs m = record { outcome = o; registers = r; requests = xs; memory = m }
+
+-- a stop hands no new state on
+abbrev pub acceptedBy : Registers → List ℕ → Memory → Ending → Registers → Memory → StepOf
+acceptedBy r xs m (ending.Stopped s) q n = stepped (Stopped s) r xs m
+acceptedBy r xs m (ending.Made e) q n = stepped (Made e) q (requestsOf r xs) n
+
+abbrev pub acceptedOf : List ℕ → Registers → List ℕ → List Range → Memory → StepOf
+acceptedOf img r xs rs m = let v = oneOf img r xs rs m in acceptedBy r xs m (v .ending) (v .registers) (v .memory)
+
+abbrev pub steppedBy : List ℕ → Registers → List ℕ → List Range → Memory → Verdict → StepOf
+steppedBy img r xs rs m (verdict.Refused x) = stepped (Refused x) r xs m
+steppedBy img r xs rs m verdict.Accepted = acceptedOf img r xs rs m
+
+-- img is the image, xs the request words of the 16 sources, rs the 32 ranges
+unfoldable pub stepOf : List ℕ → Registers → List ℕ → List Range → Memory → StepOf
+stepOf img r xs rs m = steppedBy img r xs rs m (stepVerdict m img (pc r))
