@@ -2,16 +2,16 @@
 -- Assumes nothing.
 use Prim.Native.Nat.{ℕ, zero, suc, _+_, _*_, _/_, _%_, _^_, _<_}
 use native.Mathlib.Omega.{arith}
-use mathlib.Core.Path.{_≡_, refl, _∙_}
+use mathlib.Core.Path.{_≡_, _∙_}
 use mathlib.Core.List.{List, [], _∷_}
 use lib.ListN.{length, getD, set, take, drop, length-set}
 use lib.Seq.{sets, getD-drop}
-use Rattle.memory.specs.Word.{wordAt, wordsAt, putByte, putHalf, putWord, putWords}
+use Rattle.memory.specs.Word.{wordsAt, putByte, putHalf, putWord, putWords}
 use Rattle.memory.proofs.Words.{putWord-length}
 use Rattle.areas.specs.Area.{areaAt}
 use Rattle.operations.specs.declared.Store.{Store}
 use Rattle.operations.specs.declared.Store.the-variants.{StB, StH, StW, StA}
-use Rattle.registers.specs.Registers.{D, A, pcxi, psw}
+use Rattle.registers.specs.Registers.{D, A}
 use Rattle.registers.specs.declared.Registers.{Registers}
 use Rattle.contexts.specs.Context.{upperOf, lowerOf}
 use Rattle.contexts.specs.declared.context.Half.{Half}

@@ -1,8 +1,8 @@
 -- The permits that a step answers have their properties.
 -- Assumes nothing.
-use Prim.Native.Nat.{ℕ, _+_, _*_, _/_, _%_, _^_, _≤_, _<_}
+use Prim.Native.Nat.{ℕ, _+_, _≤_, _<_}
 use native.Mathlib.Omega.{arith}
-use mathlib.Core.Path.{_≡_, refl, sym, subst, _∙_}
+use mathlib.Core.Path.{_≡_, refl}
 use mathlib.Core.Bool.{Bool, true, false, cond, _&&_}
 use mathlib.Core.List.{List}
 use lib.ListN.{getD}
@@ -12,7 +12,7 @@ use Rattle.memory.specs.Memory.{Memory}
 use Rattle.fields.specs.Psw.{PSW·PRS}
 use Rattle.registers.specs.Registers.{pc, icr}
 use Rattle.registers.specs.declared.Registers.{Registers}
-use Rattle.protection.specs.Range.{firstOf, permitted, PermittedBy}
+use Rattle.protection.specs.Range.{firstOf, permitted}
 use Rattle.protection.specs.Access.{checkOf, asks, Notes, NotesBy}
 use Rattle.protection.specs.declared.range.Range.{Range}
 use Rattle.protection.specs.declared.range.Right.{Right}
@@ -31,8 +31,7 @@ use Rattle.inputs.specs.Checks.{stepVerdict}
 use Rattle.inputs.specs.declared.verdict.Refusal.{Refusal}
 use Rattle.inputs.specs.declared.verdict.Verdict.the-variants.{Accepted, Refused}
 use Rattle.machine.specs.Permits.{permitOf, FetchNotes, AccessNotes, CheckNotes, FoundNotes, Access, none, access, dataBy, dataFound, dataChecked, fetchOfStep, dataOfStep, isPermitted, PermitSays}
-use Rattle.machine.specs.Inner.{FirstNotes}
-use Rattle.machine.specs.declared.answer.Permit.the-variants.{Unasked, By}
+use Rattle.machine.specs.declared.answer.Permit.the-variants.{Unasked}
 
 -- a set's ranges are among the 32
 first-below : (set : ℕ) (right : Right) → set < 4 → firstOf set right + 4 ≤ 32

@@ -1,9 +1,7 @@
 -- A step is a run of one; and both, where the rules refuse.
 -- Assumes nothing.
 use Prim.Native.Nat.{ℕ}
-use native.Mathlib.Omega.{arith}
-use native.Mathlib.Nat.{zero-add}
-use mathlib.Core.Path.{_≡_, refl, sym, ap, _∙_}
+use mathlib.Core.Path.{_≡_, refl}
 use mathlib.Core.List.{List}
 use Rattle.memory.specs.Memory.{Memory}
 use Rattle.registers.specs.Registers.{pc}
@@ -13,7 +11,12 @@ use Rattle.protection.specs.declared.range.Range.{Range}
 use Rattle.inputs.specs.Checks.{stepVerdict}
 use Rattle.inputs.specs.declared.verdict.Refusal.{Refusal}
 use Rattle.inputs.specs.declared.verdict.Verdict.the-variants.{Accepted, Refused}
-use Rattle.machine.specs.Step.{StepOf, stepped, stepOf}
+use Rattle.events.specs.declared.event.Ending.{Ending}
+use Rattle.events.specs.declared.event.Ending.the-variants as ending
+use Rattle.decisions.specs.Phases.{oneOf}
+use Rattle.machine.specs.Step.{StepOf, stepped, acceptedBy, stepOf}
+use Rattle.machine.specs.Inner.{Ready}
+use Rattle.machine.proofs.Turns.{accepted-step, ready-next}
 use Rattle.machine.specs.Run.{RunOf, ran, onward, runFrom, runOf}
 use Rattle.machine.specs.declared.answer.Outcome.{Outcome}
 use Rattle.machine.specs.declared.answer.Outcome.the-variants as outcome
@@ -44,3 +47,13 @@ module _ (img : List ℕ) (r : Registers) (xs : List ℕ) (rs : List Range) (m :
   pub run-accepted : (n : ℕ) → stepVerdict m img (pc r) ≡ Accepted → runOf n img r xs rs m ≡ runFrom n img rs (outcome.Made event.Instruction) 0 r xs m
   unfolding runOf
   run-accepted n e = rw e
+
+-- an accepted machine stays accepted
+pub ready-after : {img : List ℕ} {r : Registers} {m : Memory} → Ready img r m → (xs : List ℕ) (rs : List Range) → (let s = stepOf img r xs rs m in Ready img (s .registers) (s .memory))
+ready-after {img} {r} {m} y xs rs =
+    let v = oneOf img r xs rs m in
+    rw (accepted-step img r xs rs m (y .accepted)) (by (v .ending) (v .registers) (v .memory) (ready-next y xs rs v refl))
+  where
+    by : (e : Ending) (q : Registers) (n : Memory) → Ready img q n → (let s = acceptedBy r xs m e q n in Ready img (s .registers) (s .memory))
+    by (ending.Made e) q n z = z
+    by (ending.Stopped s) q n z = y

@@ -26,11 +26,10 @@ use Rattle.inputs.proofs.Verdicts.{step-says}
 use Rattle.inputs.specs.declared.verdict.Refusal.{Refusal}
 use Rattle.inputs.specs.declared.verdict.Verdict.{Verdict}
 use Rattle.inputs.specs.declared.verdict.Verdict.the-variants.{Accepted, Refused}
-use Rattle.decisions.specs.Valid.{Valid, Bytes}
 use Rattle.decisions.specs.Phases.{oneOf, requestsOf}
 use Rattle.decisions.proofs.Steps.{Kept, one-kept}
-use Rattle.machine.specs.Step.{acceptedBy, acceptedOf, stepOf}
-use Rattle.machine.specs.Run.{RunOf, ran, onward, runFrom}
+use Rattle.machine.specs.Step.{acceptedOf, stepOf}
+use Rattle.machine.specs.Run.{ran, runFrom}
 use Rattle.machine.specs.Permits.{FetchNotes, AccessNotes}
 use Rattle.machine.specs.Inner.{oneBy, Ready, FirstNotes}
 use Rattle.machine.specs.declared.answer.Outcome.the-variants.{Made, Stopped}

@@ -162,6 +162,34 @@ fn go(
     }
 }
 
+// A step of an accepted machine, for a caller that has tried the rules 1 to 4 once. The machine stays accepted.
+pub fn step_accepted(
+    base: Address,
+    window: &mut [u8],
+    image: &[u8],
+    registers: Registers,
+    requests: [u32; 16],
+    ranges: [Range; 32],
+) -> Stepped
+    requires { ⌜ Ready (now image) registers (memory (base .0) (now window)) ⌝ }
+    ensures { λ r. ⌜ stepped (r .outcome) (r .registers) (r .requests) (memory (base .0) (now (window .exit))) ≡ stepOf (now (image .entry)) registers requests ranges (memory (base .0) (now (window .entry))) ⌝ }
+    ensures { λ r. ⌜ PermitSays registers ranges (fetchOfStep (now (image .entry)) registers requests (memory (base .0) (now (window .entry)))) (r .fetch) ⌝ }
+    ensures { λ r. ⌜ PermitSays registers ranges (dataOfStep (now (image .entry)) registers requests ranges (memory (base .0) (now (window .entry)))) (r .data) ⌝ }
+    ensures { λ r. ⌜ Ready (now (image .entry)) (r .registers) (memory (base .0) (now (window .exit))) ⌝ }
+{
+    let w = go(base.0, window, image, registers, requests, ranges, 1);
+    let after = w.registers;
+    let left = w.requests;
+    let ending = w.ending;
+    Stepped {
+        registers: after,
+        requests: left,
+        outcome: outcome_of(ending),
+        fetch: permit_of(w.fetched),
+        data: permit_of(w.accessed),
+    }
+}
+
 // A step of the machine in that state, with the requests of the 16 sources and the ranges of the four sets.
 pub fn step(
     base: Address,
@@ -183,19 +211,7 @@ pub fn step(
             fetch: Permit::Unasked,
             data: Permit::Unasked,
         },
-        Verdict::Accepted => {
-            let w = go(base.0, window, image, registers, requests, ranges, 1);
-            let after = w.registers;
-            let left = w.requests;
-            let ending = w.ending;
-            Stepped {
-                registers: after,
-                requests: left,
-                outcome: outcome_of(ending),
-                fetch: permit_of(w.fetched),
-                data: permit_of(w.accessed),
-            }
-        }
+        Verdict::Accepted => { step_accepted(base, window, image, registers, requests, ranges) }
     }
 }
 

@@ -1,6 +1,6 @@
 -- `machine::steps::run` meets its contract. Assumes nothing.
 use borrow.Author.Needs.{needs}
-use mathlib.Core.Path.{refl, sym, ap, _∙_}
+use mathlib.Core.Path.{sym, _∙_}
 use Rattle.decisions.proofs.Known.{valid-of, bytes-of}
 use Rattle.machine.proofs.Turns.{accepted-even}
 use Rattle.machine.proofs.Singles.{run-refused, run-accepted}
