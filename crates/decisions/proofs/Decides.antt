@@ -2,7 +2,7 @@
 -- Assumes nothing.
 use Prim.Native.Nat.{ℕ, zero, suc, _+_, _-_, _*_, _%_, _^_, _≤_, _<_}
 use native.Mathlib.Omega.{arith}
-use mathlib.Core.Path.{_≡_, refl, ap}
+use mathlib.Core.Path.{_≡_, refl}
 use mathlib.Core.Bool.{Bool, true, false, cond, _&&_}
 use mathlib.Core.List.{List}
 use lib.ListN.{length, getD}
@@ -20,20 +20,19 @@ use Rattle.protection.specs.declared.access.Check.the-variants.{Passes, Fails}
 use Rattle.interrupts.specs.Sources.{best, bestOf, bestBelow, betterOf, takes}
 use Rattle.interrupts.specs.declared.Best.{Best}
 use Rattle.image.specs.Table.{entriesOf, entryAt}
-use Rattle.image.specs.Fetch.{instructionAt, covers, inBody, fetchFrom, fetchOf}
+use Rattle.image.specs.Fetch.{instructionAt, covers, fetchFrom, fetchOf}
 use Rattle.image.specs.declared.fetch.Instruction.{Instruction}
 use Rattle.image.specs.declared.fetch.Fetched.{Fetched}
 use Rattle.image.specs.declared.fetch.Fetched.the-variants.{Found, Nothing}
 use Rattle.contexts.specs.Save.{saveOf}
 use Rattle.contexts.specs.Restore.{returnOf}
-use Rattle.contexts.specs.declared.context.Half.{Half}
 use Rattle.contexts.specs.declared.save.Saved.{Saved}
 use Rattle.contexts.specs.declared.save.Saved.the-variants as saved
 use Rattle.contexts.specs.declared.restore.Returned.{Returned}
 use Rattle.contexts.specs.declared.restore.Returned.the-variants as returned
-use Rattle.entries.specs.Entry.{MadeOf, entering, trapOf, interruptOf}
+use Rattle.entries.specs.Entry.{entering, trapOf, interruptOf}
 use Rattle.acts.specs.Acts as acts
-use Rattle.acts.specs.Acts.{Act, Ended, performOf, saveDid, returnDid, contextOf}
+use Rattle.acts.specs.Acts.{Act, performOf, saveDid, returnDid, contextOf}
 use Rattle.acts.specs.declared.How.{How}
 use Rattle.acts.specs.declared.How.the-variants as how
 use Rattle.accesses.specs.Store.{sizeOf}
@@ -42,9 +41,9 @@ use Rattle.fields.specs.Request.{SRC·SRPN, requests}
 use Rattle.decisions.specs.Valid.{Valid, Bytes}
 use Rattle.decisions.specs.Heads.{writesHead, fetchHeads, checkHeads, stepHeads}
 use Rattle.decisions.specs.Phases.{fetchedBy, checkedBy, instructionOf, oneOf}
-use Rattle.decisions.specs.Decision.{Decision, Keep, Write, Save, Return, trapping, endingBy, decidedBy, fetchDecides, checkDecides, interrupting, decisionOf, savingOf, returningBy, returningOf, performedOf}
+use Rattle.decisions.specs.Decision.{Decision, Keep, Write, Save, Return, endingBy, decidedBy, fetchDecides, checkDecides, interrupting, decisionOf, returningBy, performedOf}
 use Rattle.decisions.proofs.Values.{Word, either-has, word-word}
-use Rattle.decisions.proofs.Sound.{Sound, EndsBy, EndsSound, TrapBytes}
+use Rattle.decisions.proofs.Sound.{Sound, EndsBy}
 use Rattle.decisions.proofs.Families.{Decoded, small, CheckBytes, check-bytes}
 use Rattle.decisions.proofs.Thens.{Then, ReturnThen, trap-then, interrupt-then}
 use Rattle.decisions.proofs.Acts.{Leads, ActSound, act-sound}

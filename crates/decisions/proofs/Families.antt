@@ -3,15 +3,13 @@
 use Prim.Native.Nat.{ℕ, _%_, _^_, _<_}
 use native.Mathlib.Omega.{arith}
 use mathlib.Core.Path.{_≡_, refl}
-use mathlib.Core.Bool.{Bool, true, false, not, _||_}
+use mathlib.Core.Bool.{Bool, not, _||_}
 use mathlib.Core.List.{List}
 use lib.ListN.{length, getD}
-use lib.Dec.{eqb}
 use Rattle.memory.specs.Memory.{Memory}
 use Rattle.fields.specs.Psw.{PSW·PRS, isUser0}
 use Rattle.fields.specs.Syscon.{SYSCON·PROTEN}
 use Rattle.bounds.proofs.Results.{compute-word, compute-psw}
-use Rattle.bounds.proofs.Fields.{icr-word, reset-psw}
 use Rattle.compare.specs.Compare.{equals}
 use Rattle.integer.specs.Integer.{computeOf}
 use Rattle.integer.specs.declared.Integer.{Integer}
@@ -22,7 +20,7 @@ use Rattle.operations.specs.declared.Jump.the-variants.{J, Jl, Ji, Jeq, Jne, Jl
 use Rattle.operations.specs.declared.Load.{Load}
 use Rattle.operations.specs.declared.Load.the-variants.{LdB, LdBu, LdH, LdHu, LdW, LdA}
 use Rattle.image.specs.declared.fetch.Instruction.{Instruction}
-use Rattle.registers.specs.Registers.{D, A, pc, psw, icr, withD, withA, withPc, withPsw, withIcr, secondOf, plusOf, minusOf, even, guards}
+use Rattle.registers.specs.Registers.{D, A, pc, psw, withPc, secondOf, plusOf, even, guards}
 use Rattle.registers.specs.declared.Registers.{Registers}
 use Rattle.events.specs.Traps.{MPP}
 use Rattle.protection.specs.Range.{permitted}
@@ -35,14 +33,13 @@ use Rattle.protection.specs.declared.access.Check.the-variants.{Passes, Fails}
 use Rattle.areas.specs.Place.{placedAt}
 use Rattle.areas.specs.declared.link.Place.{Place}
 use Rattle.areas.specs.declared.link.Place.the-variants.{At, Outside}
-use Rattle.acts.specs.Acts.{Ended, ended, done}
 use Rattle.moves.specs.Moves.{integerOf, addressWrite, moveOf}
 use Rattle.jumps.specs.Jumps.{targetOf, branchOf, holds, compareOf, loopOf, jumpOf}
 use Rattle.accesses.specs.Load.{addressIn, loadGuards, fits, readOf, putOf, loadBy, loadAtOf, loadChecked, loadOf, sizeOf}
 use Rattle.decisions.specs.Valid.{Valid, Bytes}
 use Rattle.decisions.proofs.Setters.{even-word, even-even}
 use Rattle.decisions.proofs.Values.{Word, either-has, second-word, plus-word, minus-word, read-word}
-use Rattle.decisions.proofs.Sound.{Sound, EndsSound, TrapBytes, sound-start, sound-d, sound-a, sound-psw, sound-icr, sound-pc}
+use Rattle.decisions.proofs.Sound.{Sound, EndsSound, TrapBytes, sound-start, sound-d, sound-a, sound-psw, sound-pc}
 
 -- the immediate is a word, and the next instruction's address one that is even
 pub record Decoded (i : Instruction) : Type 0 where

@@ -1,6 +1,6 @@
 -- What owning registers, request words and bytes tells.
 -- Assumes nothing.
-use Prim.Native.Nat.{ℕ, _%_, _^_, _<_}
+use Prim.Native.Nat.{ℕ, _%_}
 use native.Mathlib.Omega.{arith}
 use mathlib.Core.Path.{_≡_}
 use mathlib.Core.List.{List}
@@ -12,7 +12,7 @@ use denote.Plain.{UInt}
 use Rattle.registers.specs.Registers.{pc}
 use Rattle.registers.specs.declared.Registers.{Registers}
 use Rattle.registers.proofs.Registers as row
-use Rattle.decisions.specs.Valid.{Words, Valid, Bytes}
+use Rattle.decisions.specs.Valid.{Valid, Bytes}
 use Rattle.decisions.proofs.Values.{Word}
 use Rattle.decisions.proofs.Owned.{field-each, field-long}
 

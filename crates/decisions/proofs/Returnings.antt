@@ -1,10 +1,9 @@
 -- The cases of a return: a stop, or the half loaded and its area first on the free list.
 -- Assumes nothing.
-use Prim.Native.Nat.{ℕ, _%_, _^_, _<_}
+use Prim.Native.Nat.{ℕ}
 use native.Mathlib.Omega.{arith}
 use mathlib.Core.Path.{_≡_, refl}
 use mathlib.Core.List.{List}
-use lib.ListN.{length}
 use Rattle.memory.specs.Memory.{Memory, memory}
 use Rattle.memory.specs.Word.{wordAt, putWord}
 use Rattle.registers.specs.Registers.{registers, pcxi, fcx, withPcxi, withFcx}
@@ -33,7 +32,7 @@ loadedAt half at r bytes = withFcx (linkOf (pcxi r) .0) (withPcxi (wordAt (areaA
 
 module _ (half : Half) (then : Registers → Registers) (r : Registers) (m : Memory) where
   pub data ReturningCase : MadeOf → Type 0 where
-    outside : ReturningCase (made (Stopped stop.Outside) r m)
+    outside : placeOf m (linkOf (pcxi r)) ≡ place.Outside → ReturningCase (made (Stopped stop.Outside) r m)
     returns : (at : ℕ) → placeOf m (linkOf (pcxi r)) ≡ place.At at
         → ReturningCase (made (Made event.Instruction) (then (loadedAt half at r (m .bytes))) (memory (m .base) (putWord (m .bytes) at (fcx r))))
 
@@ -42,7 +41,7 @@ module _ (half : Half) (then : Registers → Registers) (r : Registers) (m : Mem
   returning-case = by (placeOf m (linkOf (pcxi r))) refl
     where
       by : (x : Place) → placeOf m (linkOf (pcxi r)) ≡ x → ReturningCase (let v = returnBy half r m x in returningBy then (v .returned) (v .registers) (v .memory))
-      by place.Outside h = outside
+      by place.Outside h = outside h
       by (place.At at) h = returns at h
 
 module _ {r : Registers} (w : Valid r) {bytes : List ℕ} (b : Bytes bytes) (at : ℕ) where

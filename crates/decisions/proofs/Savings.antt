@@ -1,11 +1,11 @@
 -- The cases of a save: a stop, a save, and one that took LCX's area, with the FCD entry after it.
 -- Assumes nothing.
-use Prim.Native.Nat.{ℕ, _+_, _%_, _^_, _≤_, _<_}
+use Prim.Native.Nat.{ℕ, _%_, _^_}
 use native.Mathlib.Omega.{arith}
-use mathlib.Core.Path.{_≡_, refl, sym, ap, subst, _∙_}
+use mathlib.Core.Path.{_≡_, refl, ap, _∙_}
 use mathlib.Core.Bool.{Bool, true, false, cond}
 use mathlib.Core.List.{List}
-use lib.ListN.{length, getD, set}
+use lib.ListN.{length}
 use lib.Dec.{eqb}
 use borrow.Author.Tests.{eqb-true, eqb-false}
 use Rattle.memory.specs.Memory.{Memory, memory}
@@ -58,7 +58,10 @@ module _ (e : Event) (half : Half) (saved-pc : ℕ) (then : Registers → Regist
   fcdRegisters at second = let q = afterSave Upper second (savedBytes at) (reached at) in trapEntry FCD (pc q) q
 
   pub data SavingCase : MadeOf → Type 0 where
-    stops : (s : Stop) → SavingCase (made (Stopped s) r m)
+    -- no area for the save, and none for the FCD entry after it
+    lacks : (s : Stop) → roomOf m (fcx r) ≡ room.Stops s → SavingCase (made (Stopped s) r m)
+    lacks-second : (s : Stop) (at : ℕ) → roomOf m (fcx r) ≡ room.At at → linkOf (fcx r) .0 ≡ linkOf (lcx r) .0 → roomOf m (wordAt (m .bytes) at) ≡ room.Stops s
+        → SavingCase (made (Stopped s) r m)
     saves : (at : ℕ) → roomOf m (fcx r) ≡ room.At at → (linkOf (fcx r) .0 ≡ linkOf (lcx r) .0 → ⊥)
         → SavingCase (made (Made e) (reached at) (memory (m .base) (savedBytes at)))
     depletes : (at second : ℕ) → roomOf m (fcx r) ≡ room.At at → linkOf (fcx r) .0 ≡ linkOf (lcx r) .0 → roomOf m (wordAt (m .bytes) at) ≡ room.At second
@@ -69,7 +72,7 @@ module _ (e : Event) (half : Half) (saved-pc : ℕ) (then : Registers → Regist
 
   module _ (w : Valid r) (t : Then then) where
     -- the registers reached still have the next FCX, so that the FCD entry finds the area that was looked for
-    reached-fcx : (at : ℕ) → fcx (reached at) ≡ linkOf (wordAt (m .bytes) at) .0
+    pub reached-fcx : (at : ℕ) → fcx (reached at) ≡ linkOf (wordAt (m .bytes) at) .0
     reached-fcx at = ap fcx (t .blind r w _ _) ∙ head-fcx (then r) (t .valid r w) _ _
 
     reached-room : (at second : ℕ) → roomOf m (wordAt (m .bytes) at) ≡ room.At second → roomOf (memory (m .base) (savedBytes at)) (fcx (reached at)) ≡ room.At second
@@ -87,7 +90,7 @@ module _ (e : Event) (half : Half) (saved-pc : ℕ) (then : Registers → Regist
       where
         by : (b : Bool) → eqb (linkOf (fcx r) .0) (linkOf (lcx r) .0) ≡ b → (x : Room) → roomOf m (wordAt (m .bytes) at) ≡ x
             → SavingCase (enteringOf (cond b (depletedBy half words at (r .core) m x) (taking saved.Done (m .base) (takeOf half words at (r .core) (m .bytes)))))
-        by true g (room.Stops s) k = stops s
+        by true g (room.Stops s) k = lacks-second s at h (eqb-true _ _ g) k
         by true g (room.At second) k = fcd-case at second h (eqb-true _ _ g) k
         by false g x k = saves at h (eqb-false _ _ g)
 
@@ -96,5 +99,5 @@ module _ (e : Event) (half : Half) (saved-pc : ℕ) (then : Registers → Regist
     saving-case = by (roomOf m (fcx r)) refl
       where
         by : (x : Room) → roomOf m (fcx r) ≡ x → SavingCase (enteringOf (saveBy half words (r .core) m x))
-        by (room.Stops s) h = stops s
+        by (room.Stops s) h = lacks s h
         by (room.At at) h = at-case at h

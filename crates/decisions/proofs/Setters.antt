@@ -1,12 +1,12 @@
 -- Registers with one of them written are registers again.
 -- Assumes nothing.
-use Prim.Native.Nat.{ℕ, zero, suc, _/_, _*_, _%_, _^_, _<_}
+use Prim.Native.Nat.{ℕ, zero, suc, _%_, _^_, _<_}
 use native.Mathlib.Omega.{arith}
-use mathlib.Core.Path.{_≡_, refl, sym, ap, subst, _∙_}
+use mathlib.Core.Path.{_≡_, _∙_}
 use mathlib.Core.List.{List, [], _∷_}
 use lib.ListN.{length, getD, set, length-set}
 use lib.Seq.{getD-set-same, getD-set-other}
-use Rattle.registers.specs.Registers.{D, A, pc, psw, pcxi, fcx, withD, withA, withCore, withPc, withPsw, withIcr, even}
+use Rattle.registers.specs.Registers.{pc, withD, withA, withCore, withPc, even}
 use Rattle.registers.specs.declared.Registers.{Registers}
 use Rattle.decisions.specs.Valid.{Words, Valid}
 

@@ -3,7 +3,6 @@
 use Prim.Native.Nat.{ℕ, _%_, _^_, _<_}
 use native.Mathlib.Omega.{arith}
 use mathlib.Core.Path.{_≡_, refl, _∙_}
-use mathlib.Core.List.{List}
 use lib.ListN.{getD, set}
 use lib.Seq.{getD-set-other}
 use Rattle.registers.specs.Registers.{pc, pcxi, fcx, withD, withA, withPc, withPsw, withIcr}

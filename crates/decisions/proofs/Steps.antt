@@ -1,6 +1,6 @@
 -- What a step keeps: the window's place and length, words as words, an even PC; and a stop leaves all as it was.
 -- Assumes nothing.
-use Prim.Native.Nat.{ℕ, _%_, _^_, _<_}
+use Prim.Native.Nat.{ℕ, _^_, _<_}
 use native.Mathlib.Omega.{arith}
 use mathlib.Core.Path.{_≡_, refl, sym, subst, _∙_}
 use mathlib.Core.List.{List}
@@ -13,24 +13,21 @@ use Rattle.registers.specs.declared.Registers.{Registers}
 use Rattle.events.specs.Traps.{FCD}
 use Rattle.events.specs.declared.event.Event.{Event}
 use Rattle.events.specs.declared.event.Stop.{Stop}
-use Rattle.events.specs.declared.event.Ending.{Ending}
 use Rattle.events.specs.declared.event.Ending.the-variants.{Made, Stopped}
 use Rattle.protection.specs.declared.range.Range.{Range}
 use Rattle.contexts.specs.Context.{upperOf}
 use Rattle.contexts.specs.declared.context.Half.{Half}
 use Rattle.contexts.specs.declared.context.Half.the-variants.{Upper}
-use Rattle.entries.specs.Entry.{MadeOf, made}
+use Rattle.entries.specs.Entry.{MadeOf}
 use Rattle.acts.specs.Acts.{contextOf}
 use Rattle.decisions.specs.Valid.{Valid, Bytes}
-use Rattle.decisions.specs.Heads.{stepHeads}
 use Rattle.decisions.specs.Phases.{oneOf}
 use Rattle.decisions.specs.Decision.{Decision, Keep, Write, Save, Return, decisionOf, performedOf}
-use Rattle.decisions.proofs.Sound.{TrapBytes}
 use Rattle.decisions.proofs.Families.{small}
 use Rattle.decisions.proofs.Thens.{Then, ReturnThen, heads-valid, trap-then}
 use Rattle.decisions.proofs.Decides.{DecisionSound, one-is, decision-sound}
 use Rattle.decisions.proofs.Memories.{bytes-word, bytes-words, bytes-stored, stored-length, context-words}
-use Rattle.decisions.proofs.Savings.{afterSave, savedBytes, reached, SavingCase, stops, saves, depletes, saving-case}
+use Rattle.decisions.proofs.Savings.{afterSave, savedBytes, reached, SavingCase, lacks, lacks-second, saves, depletes, saving-case}
 use Rattle.decisions.proofs.Returnings.{ReturningCase, outside, returns, returning-case, loaded-valid}
 
 never : {e : Event} {s : Stop} → Made e ≡ Stopped s → ⊥
@@ -48,14 +45,15 @@ after-valid half at bytes v = heads-valid _ _ v (pcxi-word _ _ _) (omega arith)
 
 module _ {r : Registers} (w : Valid r) (m : Memory) (b : Bytes (m .bytes)) where
   module _ (e : Event) (half : Half) (saved-pc : ℕ) (h : saved-pc < 2 ^ 32) (then : Registers → Registers) (t : Then then) where
-    saved-bytes : (at : ℕ) → Bytes (savedBytes e half saved-pc then r m at)
+    pub saved-bytes : (at : ℕ) → Bytes (savedBytes e half saved-pc then r m at)
     saved-bytes at = bytes-words at (contextOf half saved-pc r) 16 b (context-words w half saved-pc h)
 
-    reached-valid : (at : ℕ) → Valid (reached e half saved-pc then r m at)
+    pub reached-valid : (at : ℕ) → Valid (reached e half saved-pc then r m at)
     reached-valid at = t .valid _ (after-valid half at (m .bytes) w)
 
     saving-kept : (x : MadeOf) → SavingCase e half saved-pc then r m x → Kept r m x
-    saving-kept x (stops s) = record { base = refl; size = refl; valid = w; bytes = b; leaves = λ s' g. (refl, refl) }
+    saving-kept x (lacks s k) = record { base = refl; size = refl; valid = w; bytes = b; leaves = λ s' g. (refl, refl) }
+    saving-kept x (lacks-second s at k g l) = record { base = refl; size = refl; valid = w; bytes = b; leaves = λ s' g. (refl, refl) }
     saving-kept x (saves at k g) =
         record {
           base = refl;
@@ -77,7 +75,7 @@ module _ {r : Registers} (w : Valid r) (m : Memory) (b : Bytes (m .bytes)) where
         }
 
   returning-kept : (half : Half) (then : Registers → Registers) → ReturnThen then → (x : MadeOf) → ReturningCase half then r m x → Kept r m x
-  returning-kept half then t x outside = record { base = refl; size = refl; valid = w; bytes = b; leaves = λ s g. (refl, refl) }
+  returning-kept half then t x (outside k) = record { base = refl; size = refl; valid = w; bytes = b; leaves = λ s g. (refl, refl) }
   returning-kept half then t x (returns at k) =
       record {
         base = refl;

@@ -1,25 +1,22 @@
 -- ENABLE to RSTV. MTCR alone can write a head.
 -- Assumes nothing.
-use Prim.Native.Nat.{ℕ, _^_, _<_}
+use Prim.Native.Nat.{ℕ, _<_}
 use native.Mathlib.Omega.{arith}
-use mathlib.Core.Path.{_≡_, refl, sym, _∙_}
-use mathlib.Core.Bool.{Bool, true, false, _&&_, _||_}
-use mathlib.Core.Logic.{_≢_}
-use mathlib.Core.List.{List}
+use mathlib.Core.Path.{_≡_, refl, sym}
+use mathlib.Core.Bool.{Bool, true, false, _&&_}
 use lib.ListN.{getD}
 use lib.Seq.{getD-set-other}
 use lib.Dec.{eqb}
 use borrow.Author.Tests.{eqb-false}
 use Rattle.words.proofs.Truth.{either-false}
-use Rattle.fields.specs.Psw.{PSW·V, PSW·SV, isUser0, isSupervisor, resetOf}
-use Rattle.fields.specs.Icr.{ICR·CCPN, icrOf}
+use Rattle.fields.specs.Psw.{PSW·V, PSW·SV, isUser0, isSupervisor}
+use Rattle.fields.specs.Icr.{ICR·CCPN}
 use Rattle.bounds.proofs.Fields.{icr-word, reset-psw}
 use Rattle.operations.specs.declared.System.{System}
 use Rattle.operations.specs.declared.System.the-variants.{Enable, Disable, Mfcr, Mtcr, Trapv, Trapsv, Rstv}
 use Rattle.image.specs.declared.fetch.Instruction.{Instruction}
-use Rattle.registers.specs.Registers.{registers, D, psw, icr, withD, withPc, withPsw, withIcr}
+use Rattle.registers.specs.Registers.{registers, D, psw, icr}
 use Rattle.registers.specs.declared.Registers.{Registers}
-use Rattle.events.specs.Traps.{PRIV, OVF, SOVF}
 use Rattle.system.specs.CoreRegisters.{namedOf, readBy, readOf, writtenBy, writtenOf}
 use Rattle.system.specs.Instructions.{enableOf, systemOf}
 use Rattle.system.specs.declared.core_registers.Named.{Named}
@@ -28,7 +25,7 @@ use Rattle.decisions.specs.Valid.{Valid}
 use Rattle.decisions.specs.Heads.{isHead, systemWrites}
 use Rattle.decisions.proofs.Setters.{valid-core}
 use Rattle.decisions.proofs.Values.{Word, either-has, either-knows}
-use Rattle.decisions.proofs.Sound.{Sound, EndsSound, TrapBytes, sound-start, sound-d, sound-psw, sound-icr}
+use Rattle.decisions.proofs.Sound.{Sound, EndsSound, sound-start, sound-d, sound-psw, sound-icr}
 use Rattle.decisions.proofs.Families.{Decoded, onward, small}
 
 -- PC is not under a register's index

@@ -2,24 +2,24 @@
 -- Assumes nothing.
 use Prim.Native.Nat.{ℕ, _*_, _%_, _^_, _<_}
 use native.Mathlib.Omega.{arith}
-use mathlib.Core.Path.{_≡_, refl, sym, ap, _∙_}
-use mathlib.Core.Bool.{Bool, true, false}
+use mathlib.Core.Path.{_≡_, refl, _∙_}
+use mathlib.Core.Bool.{true, false}
 use mathlib.Core.List.{List, [], _∷_}
 use lib.ListN.{length, getD, set}
-use lib.Seq.{getD-set-same, getD-set-other}
+use lib.Seq.{getD-set-other}
 use lib.Bits.{bitOr}
 use Rattle.fields.specs.Psw.{PSW·IS}
 use Rattle.fields.specs.Icr.{ICR·CCPN, icrOf}
 use Rattle.fields.specs.Pcxi.{PCXI·PIE, PCXI·PCPN}
 use Rattle.fields.specs.Depth.{calledOf}
 use Rattle.bounds.proofs.Fields.{icr-word, called-psw, or-word}
-use Rattle.registers.specs.Registers.{registers, A, pc, psw, pcxi, fcx, icr, isp, biv, btv, withD, withA, withPc, withPsw, withIcr, even}
+use Rattle.registers.specs.Registers.{registers, A, pc, psw, pcxi, fcx, icr, biv, btv, withD, withPc, withIcr, even}
 use Rattle.registers.specs.declared.Registers.{Registers}
 use Rattle.events.specs.declared.trap.Trap.{Trap}
 use Rattle.entries.specs.Entry.{stackOf, enteredOf, trapEntry, interruptEntry}
 use Rattle.calls.specs.Saves.{calledThen, bisrThen}
 use Rattle.calls.specs.Returns.{rfeThen}
-use Rattle.decisions.specs.Valid.{Words, Valid}
+use Rattle.decisions.specs.Valid.{Valid}
 use Rattle.decisions.proofs.Setters.{valid-d, valid-a, valid-core, valid-pc, even-word, even-even}
 use Rattle.decisions.proofs.Values.{Word, either-has}
 use Rattle.decisions.proofs.Sound.{TrapBytes}

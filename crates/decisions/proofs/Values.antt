@@ -1,15 +1,14 @@
 -- What the instructions read and compute are words.
 -- Assumes nothing.
-use Prim.Native.Nat.{ℕ, _+_, _-_, _%_, _^_, _<_}
+use Prim.Native.Nat.{ℕ, _+_, _-_, _^_, _<_}
 use native.Mathlib.Omega.{arith}
 use mathlib.Core.Path.{_≡_, refl}
 use mathlib.Core.Bool.{Bool, true, false, cond}
 use mathlib.Core.List.{List}
 use lib.ListN.{getD}
 use lib.Dec.{eqb, ltb}
-use borrow.Author.Tests.{ltb-true}
 use Rattle.memory.specs.Word.{wordAt, halfAt}
-use Rattle.registers.specs.Registers.{secondOf, plusOf, minusOf, even}
+use Rattle.registers.specs.Registers.{secondOf, plusOf, minusOf}
 use Rattle.accesses.specs.Load.{extendByte, extendHalf, readOf}
 use Rattle.operations.specs.declared.Load.{Load}
 use Rattle.operations.specs.declared.Load.the-variants.{LdB, LdBu, LdH, LdHu, LdW, LdA}

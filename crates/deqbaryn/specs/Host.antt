@@ -1,0 +1,91 @@
+-- What the three functions answer, and what they leave of the core record and the window. A record of another length than 616 is answered as such, with all as before.
+use Prim.Native.Nat.{ℕ}
+use mathlib.Core.Path.{_≡_}
+use mathlib.Core.Bool.{Bool, true, false, cond}
+use mathlib.Core.List.{List}
+use lib.ListN.{length}
+use lib.Dec.{eqb}
+use Rattle.memory.specs.Memory.{Memory}
+use Rattle.registers.specs.Registers.{pc, fcx, pcxi}
+use Rattle.registers.specs.declared.Registers.{Registers}
+use Rattle.inputs.specs.Checks.{startVerdict}
+use Rattle.machine.specs.Step.{StepOf, stepOf}
+use Rattle.machine.specs.Run.{RunOf, runOf}
+use Rattle.machine.specs.Permits.{fetchOfStep, dataOfStep, PermitSays}
+use Rattle.machine.specs.declared.answer.Outcome.{Outcome}
+use Rattle.machine.specs.declared.answer.Outcome.the-variants.{Made, Stopped, Refused}
+use Rattle.machine.specs.declared.answer.Permit.{Permit}
+use Rattle.records.specs.CoreRecord.{registersIn, requestsIn, rangesOf, storedIn}
+use Rattle.deqbaryn.specs.Answers.{permitsNumber, outcomeAnswer, wrongLength, verdictAnswer}
+
+abbrev pub isRecord : List ℕ → Bool
+isRecord bytes = eqb (length bytes) 616
+
+-- ---- a start, with PC, FCX and PCXI of the record
+abbrev pub startOn : Registers → Memory → List ℕ → ℕ
+startOn r m img = verdictAnswer (startVerdict m img (pc r) (fcx r) (pcxi r))
+
+abbrev pub startAnswer : List ℕ → Memory → List ℕ → ℕ
+startAnswer bytes m img = cond (isRecord bytes) (startOn (registersIn bytes) m img) wrongLength
+
+-- ---- what a step or a run leaves
+pub record Left : Type 0 where
+  pub core : List ℕ
+  pub memory : Memory
+
+abbrev pub left : List ℕ → Memory → Left
+left bytes m = record { core = bytes; memory = m }
+
+-- the record after a step: a refusal and a stop leave it as it was
+abbrev pub stepStored : Outcome → Registers → List ℕ → List ℕ → List ℕ
+stepStored (Made e) r xs bytes = storedIn r xs bytes
+stepStored (Stopped s) r xs bytes = bytes
+stepStored (Refused x) r xs bytes = bytes
+
+-- and after a run, which stores what its last step made left
+abbrev pub runStored : Outcome → Registers → List ℕ → List ℕ → List ℕ
+runStored (Made e) r xs bytes = storedIn r xs bytes
+runStored (Stopped s) r xs bytes = storedIn r xs bytes
+runStored (Refused x) r xs bytes = bytes
+
+-- ---- a step of the machine in the record
+abbrev pub stepOn : List ℕ → Memory → List ℕ → StepOf
+stepOn bytes m img = stepOf img (registersIn bytes) (requestsIn bytes) (rangesOf bytes) m
+
+abbrev pub afterStep : StepOf → List ℕ → Left
+afterStep s bytes = left (stepStored (s .outcome) (s .registers) (s .requests) bytes) (s .memory)
+
+abbrev pub stepLeft : List ℕ → Memory → List ℕ → Left
+stepLeft bytes m img = cond (isRecord bytes) (afterStep (stepOn bytes m img) bytes) (left bytes m)
+
+-- the outcome, with the permitting ranges, which are free: those of the fetch and of the data access
+pub record StepAnswer (bytes : List ℕ) (m : Memory) (img : List ℕ) (n : ℕ) : Type 0 where
+  pub fetch : Permit
+  pub access : Permit
+  pub fetch-says : PermitSays (registersIn bytes) (rangesOf bytes) (fetchOfStep img (registersIn bytes) (requestsIn bytes) m) fetch
+  pub access-says : PermitSays (registersIn bytes) (rangesOf bytes) (dataOfStep img (registersIn bytes) (requestsIn bytes) (rangesOf bytes) m) access
+  pub is : n ≡ outcomeAnswer (stepOn bytes m img .outcome) (permitsNumber fetch access) 0
+
+abbrev pub StepAnswersBy : Bool → List ℕ → Memory → List ℕ → ℕ → Type 0
+StepAnswersBy true bytes m img n = StepAnswer bytes m img n
+StepAnswersBy false bytes m img n = n ≡ wrongLength
+
+abbrev pub StepAnswers : List ℕ → Memory → List ℕ → ℕ → Type 0
+StepAnswers bytes m img n = StepAnswersBy (isRecord bytes) bytes m img n
+
+-- ---- a run of n steps
+abbrev pub runOn : ℕ → List ℕ → Memory → List ℕ → RunOf
+runOn n bytes m img = runOf n img (registersIn bytes) (requestsIn bytes) (rangesOf bytes) m
+
+abbrev pub afterRun : RunOf → List ℕ → Left
+afterRun v bytes = left (runStored (v .outcome) (v .registers) (v .requests) bytes) (v .memory)
+
+abbrev pub runLeft : ℕ → List ℕ → Memory → List ℕ → Left
+runLeft n bytes m img = cond (isRecord bytes) (afterRun (runOn n bytes m img) bytes) (left bytes m)
+
+-- the last step's outcome, with the steps made
+abbrev pub ranAnswer : RunOf → ℕ
+ranAnswer v = outcomeAnswer (v .outcome) 0 (v .made)
+
+abbrev pub runAnswer : ℕ → List ℕ → Memory → List ℕ → ℕ
+runAnswer n bytes m img = cond (isRecord bytes) (ranAnswer (runOn n bytes m img)) wrongLength

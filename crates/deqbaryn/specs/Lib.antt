@@ -1,0 +1,3 @@
+-- The host library.
+pub mod Answers
+pub mod Host

@@ -1,0 +1,120 @@
+// The host library: a start, a step and a run on a core record, a window and an image that the host lends. No pointer is kept.
+
+pub mod answers;
+
+use crate::answers::outcome_answer;
+use crate::answers::packed;
+use crate::answers::permits;
+use crate::answers::verdict_answer;
+use areas::link::Address;
+use inputs::checks::try_start;
+use machine::answer::Outcome;
+use machine::steps::run;
+use machine::steps::step;
+use records::read_ranges;
+use records::read_registers;
+use records::read_requests;
+use records::write_back;
+use registers::FCX;
+use registers::PC;
+use registers::PCXI;
+use registers::Registers;
+ghost use mathlib.Core.Path.{_≡_};
+ghost use lib.ListN.{length};
+ghost use Rattle.memory.specs.Memory.{memory};
+ghost use Rattle.deqbaryn.specs.Host.{startAnswer, stepStored, runStored, left, stepLeft, runLeft, StepAnswers, runAnswer};
+
+// Whether the start is accepted, with PC, FCX and PCXI of the record.
+#[no_mangle]
+pub extern "C" fn deqbaryn_start(core: &[u8], base: u32, window: &[u8], image: &[u8]) -> u64
+    ensures { λ r. ⌜ r ≡ startAnswer (now (core .entry)) (memory base (now (window .entry))) (now (image .entry)) ⌝ }
+    ensures unchanged { λ _. ⌜ (now (core .exit) ≡ now (core .entry)) × (now (window .exit) ≡ now (window .entry)) × (now (image .exit) ≡ now (image .entry)) ⌝ }
+{
+    if core.len() != 616 {
+        return packed(5, 0, 0, 0, 0);
+    }
+    let r = read_registers(core);
+    verdict_answer(try_start(
+        Address(base),
+        window,
+        image,
+        r.core[PC],
+        r.core[FCX],
+        r.core[PCXI],
+    ))
+}
+
+// A refused or stopped step leaves the record as it was.
+fn store_step(core: &mut [u8], outcome: Outcome, registers: Registers, requests: [u32; 16])
+    requires { ⌜ length (now core) ≡ 616 ⌝ }
+    ensures { λ _. ⌜ now (core .exit) ≡ stepStored outcome registers requests (now (core .entry)) ⌝ }
+{
+    match outcome {
+        Outcome::Made(_) => write_back(core, registers, requests),
+        Outcome::Stopped(_) => {}
+        Outcome::Refused(_) => {}
+    }
+}
+
+// A run that stops leaves the record as its last step made left it.
+fn store_run(core: &mut [u8], outcome: Outcome, registers: Registers, requests: [u32; 16])
+    requires { ⌜ length (now core) ≡ 616 ⌝ }
+    ensures { λ _. ⌜ now (core .exit) ≡ runStored outcome registers requests (now (core .entry)) ⌝ }
+{
+    match outcome {
+        Outcome::Made(_) => write_back(core, registers, requests),
+        Outcome::Stopped(_) => write_back(core, registers, requests),
+        Outcome::Refused(_) => {}
+    }
+}
+
+#[no_mangle]
+pub extern "C" fn deqbaryn_step(
+    core: &mut [u8],
+    base: u32,
+    window: &mut [u8],
+    image: &[u8],
+) -> u64
+    ensures { λ _. ⌜ left (now (core .exit)) (memory base (now (window .exit))) ≡ stepLeft (now (core .entry)) (memory base (now (window .entry))) (now (image .entry)) ⌝ }
+    ensures { λ r. ⌜ StepAnswers (now (core .entry)) (memory base (now (window .entry))) (now (image .entry)) r ⌝ }
+{
+    if core.len() != 616 {
+        return packed(5, 0, 0, 0, 0);
+    }
+    let r = read_registers(core);
+    let xs = read_requests(core);
+    let rs = read_ranges(core);
+    let s = step(Address(base), window, image, r, xs, rs);
+    let outcome = s.outcome;
+    let after = s.registers;
+    let requests = s.requests;
+    let fetch = s.fetch;
+    let access = s.data;
+    store_step(core, outcome, after, requests);
+    outcome_answer(outcome, permits(fetch, access), 0)
+}
+
+#[no_mangle]
+pub extern "C" fn deqbaryn_run(
+    core: &mut [u8],
+    base: u32,
+    window: &mut [u8],
+    image: &[u8],
+    n: u32,
+) -> u64
+    ensures { λ _. ⌜ left (now (core .exit)) (memory base (now (window .exit))) ≡ runLeft n (now (core .entry)) (memory base (now (window .entry))) (now (image .entry)) ⌝ }
+    ensures { λ r. ⌜ r ≡ runAnswer n (now (core .entry)) (memory base (now (window .entry))) (now (image .entry)) ⌝ }
+{
+    if core.len() != 616 {
+        return packed(5, 0, 0, 0, 0);
+    }
+    let r = read_registers(core);
+    let xs = read_requests(core);
+    let rs = read_ranges(core);
+    let v = run(Address(base), window, image, r, xs, rs, n);
+    let outcome = v.outcome;
+    let after = v.registers;
+    let requests = v.requests;
+    store_run(core, outcome, after, requests);
+    outcome_answer(outcome, 0, v.made)
+}

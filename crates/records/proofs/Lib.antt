@@ -1,0 +1,2 @@
+-- Laws of the core record.
+pub mod Readings

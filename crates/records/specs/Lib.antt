@@ -1,0 +1,2 @@
+-- The core record.
+pub mod CoreRecord

@@ -1,0 +1,7 @@
+-- The proof of demand 3.
+pub mod Areas
+pub mod Frames
+pub mod Invariant
+pub mod Loads
+pub mod Saves
+pub mod Steps

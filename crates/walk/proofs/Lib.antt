@@ -1,0 +1,3 @@
+-- Laws of the pool walk.
+pub mod Texts
+pub mod Starts

@@ -1,0 +1,5 @@
+-- The pool walk.
+pub mod Start
+pub mod Text
+pub mod Written
+pub mod Walk

@@ -1,0 +1,65 @@
+// The start of a walk: the areas of the window linked ascending, and the registers.
+
+use areas::link::Address;
+use memory::put_word;
+use memory::word_at;
+use protection::range::Range;
+use registers::Registers;
+ghost use mathlib.Core.Path.{_≡_};
+ghost use Rattle.walk.specs.Start.{linkAfter, startBytes, firstAddress, startRegisters, noRanges};
+
+pub const BASE: Address = Address(0xD000_0000);
+
+// The link in area k's first word.
+fn link_after(k: usize) -> u32
+    ensures { λ r. ⌜ r ≡ linkAfter k ⌝ }
+{
+    if k < 63 {
+        return 0xD_0001 + k as u32;
+    }
+    0
+}
+
+pub fn start_window() -> [u8; 4096]
+    ensures { λ r. ⌜ r ≡ startBytes ⌝ }
+{
+    let mut bytes = [0; 4096];
+    let mut k: usize = 0;
+    while k < 64 {
+        put_word(&mut bytes, 64 * k, link_after(k));
+        k += 1;
+    }
+    bytes
+}
+
+// The image's first load address.
+pub fn first_address(image: &[u8]) -> u32
+    ensures { λ r. ⌜ r ≡ firstAddress (now (image .entry)) ⌝ }
+{
+    if image.len() < 8 {
+        return 0;
+    }
+    word_at(image, 4)
+}
+
+pub fn start_registers(image: &[u8]) -> Registers
+    ensures { λ r. ⌜ r ≡ startRegisters (now (image .entry)) ⌝ }
+{
+    let pc = first_address(image);
+    Registers {
+        d: [0; 16],
+        a: [0; 16],
+        core: [pc, 0xB80, 0, 0xD_0000, 0, 0, 0, 0, 0x8001_0000, 0],
+    }
+}
+
+pub fn no_ranges() -> [Range; 32]
+    ensures { λ r. ⌜ r ≡ noRanges ⌝ }
+{
+    let none = Range {
+        lower: 0,
+        upper: 0,
+        mode: 0,
+    };
+    [none; 32]
+}
