@@ -69,12 +69,7 @@ fn store_run(core: &mut [u8], outcome: Outcome, registers: Registers, requests: 
 }
 
 #[no_mangle]
-pub extern "C" fn deqbaryn_step(
-    core: &mut [u8],
-    base: u32,
-    window: &mut [u8],
-    image: &[u8],
-) -> u64
+pub extern "C" fn deqbaryn_step(core: &mut [u8], base: u32, window: &mut [u8], image: &[u8]) -> u64
     ensures { λ _. ⌜ left (now (core .exit)) (memory base (now (window .exit))) ≡ stepLeft (now (core .entry)) (memory base (now (window .entry))) (now (image .entry)) ⌝ }
     ensures { λ r. ⌜ StepAnswers (now (core .entry)) (memory base (now (window .entry))) (now (image .entry)) r ⌝ }
 {

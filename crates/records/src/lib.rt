@@ -59,7 +59,11 @@ pub fn read_ranges(core: &[u8]) -> [Range; 32]
     requires { ⌜ length (now core) ≡ 616 ⌝ }
     ensures { λ r. ⌜ r ≡ rangesOf (now (core .entry)) ⌝ }
 {
-    let mut ranges = [Range { lower: 0, upper: 0, mode: 0 }; 32];
+    let mut ranges = [Range {
+        lower: 0,
+        upper: 0,
+        mode: 0,
+    }; 32];
     let mut k: usize = 0;
     while k < 32 {
         ranges[k] = Range {

@@ -1,13 +1,13 @@
 -- What an area holds: after a save into it, and where other bytes are written.
 -- Assumes nothing.
-use Prim.Native.Nat.{ℕ, zero, suc, _+_, _*_, _%_, _^_, _≤_, _<_}
+use Prim.Native.Nat.{ℕ, _+_, _*_, _^_, _≤_, _<_}
 use native.Mathlib.Omega.{arith}
-use mathlib.Core.Path.{_≡_, refl, sym, ap, _∙_}
+use mathlib.Core.Path.{_≡_, sym, ap, _∙_}
 use mathlib.Core.Logic.{_⊎_, inl, inr, ⊎-elim}
-use mathlib.Core.List.{List, [], _∷_, _++_}
-use lib.ListN.{length, getD, set, take, drop}
-use lib.Seq.{ext-getD, getD-take, getD-drop, getD-set-other}
-use Rattle.memory.specs.Word.{wordAt, wordsAt, putByte, putHalf, putWord, putWords}
+use mathlib.Core.List.{List}
+use lib.ListN.{length, getD, take, drop}
+use lib.Seq.{ext-getD, getD-take, getD-drop}
+use Rattle.memory.specs.Word.{wordAt, wordsAt, putWord, putWords}
 use Rattle.memory.proofs.Words.{putWord-byte, putWord-length, putWord-same, putWords-byte, putWords-at, putWords-length}
 use Rattle.areas.specs.Area.{areaAt}
 use Rattle.areas.proofs.Parts.{area-length, area-word, area-first}

@@ -3,8 +3,8 @@
 use Prim.Native.Nat.{ℕ, _+_, _%_, _^_, _≤_, _<_}
 use native.Mathlib.Omega.{arith}
 use mathlib.Core.Path.{_≡_, refl, sym, ap, subst, _∙_}
-use mathlib.Core.Logic.{_⊎_, inl, inr, ⊎-elim}
-use mathlib.Core.List.{List, [], _∷_, _++_}
+use mathlib.Core.Logic.{_⊎_}
+use mathlib.Core.List.{List, _∷_}
 use lib.ListN.{length, getD}
 use Rattle.memory.specs.Memory.{Memory, memory}
 use Rattle.memory.specs.Word.{wordAt, putWord, putWords}
@@ -21,7 +21,7 @@ use Rattle.areas.specs.declared.link.Place.the-variants.{At}
 use Rattle.areas.proofs.Places.{apart, placed-at}
 use Rattle.areas.proofs.Parts.{area-first}
 use Rattle.lists.specs.Lists.{Leads, one, count}
-use Rattle.lists.proofs.Counts.{one-self, same?}
+use Rattle.lists.proofs.Counts.{one-self}
 use Rattle.contexts.specs.Context.{ulOf, upperOf, lowerOf}
 use Rattle.contexts.specs.declared.context.Half.{Half}
 use Rattle.contexts.specs.declared.context.Half.the-variants.{Upper, Lower}

@@ -5,3 +5,5 @@ pub mod Invariant
 pub mod Loads
 pub mod Saves
 pub mod Steps
+pub mod Series
+pub mod Starts

@@ -1,9 +1,9 @@
 -- A save over the lists: the first free link goes on top of the saved contexts, and an FCD entry's after it.
 -- Assumes nothing.
-use Prim.Native.Nat.{ℕ, _+_, _%_, _^_, _≤_, _<_}
+use Prim.Native.Nat.{ℕ, _%_, _^_, _<_}
 use native.Mathlib.Omega.{arith}
 use mathlib.Core.Path.{_≡_, refl, sym, ap, subst, _∙_}
-use mathlib.Core.Bool.{Bool, true, false, cond}
+use mathlib.Core.Bool.{Bool, true, false}
 use mathlib.Core.List.{List, [], _∷_}
 use lib.ListN.{length, getD, set}
 use lib.Seq.{getD-set-other}
@@ -39,7 +39,7 @@ use Rattle.decisions.proofs.Thens.{Then, withHeads, head-fcx, head-pcxi, trap-t
 use Rattle.decisions.proofs.Savings.{afterSave, reached, savedBytes, fcdRegisters, SavingCase, lacks, lacks-second, saves, depletes}
 use Rattle.decisions.proofs.Steps.{after-valid}
 use Rattle.series.specs.Abstract.{upperRegisters, named, SavedContext, context, AbstractLists, lists, SaveOf, saveOne, saveTwo}
-use Rattle.series.specs.Calls.{State, state}
+use Rattle.series.specs.Calls.{state}
 use Rattle.series.specs.Claim.{end}
 use Rattle.series.proofs.Frames.{place-same}
 use Rattle.series.proofs.Invariant.{Inv, save-inv}

@@ -6,14 +6,12 @@ use native.Mathlib.Decide.{decLe}
 use native.Mathlib.Nat.{lt-of-not-le}
 use mathlib.Core.Path.{_≡_, refl, sym, ap, subst, _∙_}
 use mathlib.Core.Logic.{_⊎_, inl, inr, ⊎-elim}
-use mathlib.Core.Bool.{Bool, true, false}
 use mathlib.Core.List.{List, [], _∷_}
 use lib.ListN.{length, getD, set, length-set}
 use lib.Seq.{getD-set-same, getD-set-other}
 use Rattle.memory.specs.Memory.{Memory, memory}
 use Rattle.memory.specs.Word.{wordAt, putByte, putHalf, putWord}
 use Rattle.memory.proofs.Words.{putWord-byte}
-use Rattle.fields.specs.Pcxi.{PCXI·UL}
 use Rattle.registers.specs.Registers.{pc, pcxi, fcx}
 use Rattle.registers.specs.declared.Registers.{Registers}
 use Rattle.events.specs.declared.event.Event.{Event}
@@ -23,7 +21,7 @@ use Rattle.areas.specs.Link.{linkOf, addressOf}
 use Rattle.areas.specs.Place.{placeOf}
 use Rattle.areas.specs.Area.{areaAt}
 use Rattle.areas.specs.declared.link.Link.{Link}
-use Rattle.areas.specs.declared.link.Place.the-variants.{At, Outside}
+use Rattle.areas.specs.declared.link.Place.the-variants.{At}
 use Rattle.areas.proofs.Places.{never-at, placed-at}
 use Rattle.operations.specs.declared.Store.{Store}
 use Rattle.operations.specs.declared.Store.the-variants.{StB, StH, StW, StA}
@@ -39,20 +37,20 @@ use Rattle.decisions.specs.Valid.{Valid}
 use Rattle.decisions.specs.Decision.{Decision, Keep, Write, Save, Return, performedOf}
 use Rattle.decisions.proofs.Sound.{Sound}
 use Rattle.decisions.proofs.Acts as acts
-use Rattle.decisions.proofs.Thens.{ReturnThen, ten}
+use Rattle.decisions.proofs.Thens.{ReturnThen}
 use Rattle.decisions.proofs.Memories.{bytes-stored, stored-length}
 use Rattle.decisions.proofs.Decides.{DecisionSound}
 use Rattle.decisions.proofs.Savings.{saving-case}
 use Rattle.decisions.proofs.Returnings.{loadedAt, loaded-valid, ReturningCase, outside, returns, returning-case}
 use Rattle.series.specs.Abstract.{named, held, SavedContext, AbstractLists, lists, links, moveOf, returnOne, moved}
-use Rattle.series.specs.Calls.{State, state}
+use Rattle.series.specs.Calls.{state}
 use Rattle.series.specs.Conditions.{Apart, StoreApart}
-use Rattle.series.specs.Claim.{Agree}
+use Rattle.series.specs.Claim.{RestoredBy}
 use Rattle.series.proofs.Areas.{area-same}
 use Rattle.series.proofs.Frames.{Unchanged, leads-frame, stacked-frame}
-use Rattle.series.proofs.Invariant.{Inv, same-place, return-held, return-inv}
+use Rattle.series.proofs.Invariant.{Inv, return-held, return-inv}
 use Rattle.series.proofs.Loads.{loaded-held, named-then}
-use Rattle.series.proofs.Saves.{Saved, save-moves}
+use Rattle.series.proofs.Saves.{save-moves}
 
 -- ---- registers written, but not the heads
 keep-inv : {L : List Link} {r : Registers} {m : Memory} {b : AbstractLists} (quiet : Type 0) (q : Registers) → Inv L (state r m) b → Sound quiet r q → quiet → Inv L (state q m) b
@@ -171,16 +169,10 @@ module _ (half : Half) (then : Registers → Registers) (t : ReturnThen then) (L
       }
 
 -- ---- what is decided
-abbrev pub RestoresBy : Decision → Registers → AbstractLists → Type 0
-RestoresBy (Keep q) x b = Unit {0}
-RestoresBy (Write op at v q) x b = Unit {0}
-RestoresBy (Save e half saved-pc then) x b = Unit {0}
-RestoresBy (Return half then) x b = Restores half x b
-
 pub record Moves (L : List Link) (d : Decision) (r : Registers) (b : AbstractLists) (x : MadeOf) : Type 0 where
   pub inv : Inv L (state (x .registers) (x .memory)) (moved (moveOf d r) b)
   pub stays : (y : Stop) → x .ending ≡ Stopped y → moved (moveOf d r) b ≡ b
-  pub restores : RestoresBy d (x .registers) b
+  pub restores : RestoredBy d (x .registers) b
 
 pub decision-moves : {L : List Link} {r : Registers} {m : Memory} {b : AbstractLists} (quiet : Type 0) → quiet → Inv L (state r m) b → (d : Decision) → DecisionSound quiet r m d → StoreApart L m d
     → Moves L d r b (performedOf d r m)

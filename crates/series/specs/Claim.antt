@@ -14,12 +14,9 @@ use Rattle.areas.specs.declared.link.Link.{Link}
 use Rattle.areas.specs.declared.link.Place.the-variants.{At}
 use Rattle.lists.specs.Lists.{Leads, count}
 use Rattle.contexts.specs.Context.{ulOf}
-use Rattle.contexts.specs.declared.context.Half.{Half}
-use Rattle.inputs.specs.Checks.{startVerdict}
 use Rattle.inputs.specs.declared.verdict.Verdict.{Verdict}
 use Rattle.inputs.specs.declared.verdict.Verdict.the-variants.{Accepted, Refused}
 use Rattle.decisions.specs.Decision.{Decision, Keep, Write, Save, Return}
-use Rattle.machine.specs.Step.{StepOf}
 use Rattle.machine.specs.declared.answer.Outcome.{Outcome}
 use Rattle.machine.specs.declared.answer.Outcome.the-variants as outcome
 use Rattle.series.specs.Abstract.{named, held, SavedContext, AbstractLists, links}
@@ -52,11 +49,11 @@ abbrev pub listed : AbstractLists → List Link
 listed b = b .free ++ links (b .saved)
 
 -- a return has the half of the context that comes off, and after it each register of the half is as entered
-abbrev pub RestoredBy : Decision → StepOf → AbstractLists → Type 0
-RestoredBy (Keep q) s b = Unit {0}
-RestoredBy (Write op at v q) s b = Unit {0}
-RestoredBy (Save e half saved-pc then) s b = Unit {0}
-RestoredBy (Return half then) s b = (c : SavedContext) × (cs : List SavedContext) × (b .saved ≡ c ∷ cs) × (c .half ≡ half) × (named half (s .registers) ≡ c .registers)
+abbrev pub RestoredBy : Decision → Registers → AbstractLists → Type 0
+RestoredBy (Keep p) q b = Unit {0}
+RestoredBy (Write op at v p) q b = Unit {0}
+RestoredBy (Save e half saved-pc then) q b = Unit {0}
+RestoredBy (Return half then) q b = (c : SavedContext) × (cs : List SavedContext) × (b .saved ≡ c ∷ cs) × (c .half ≡ half) × (named half q ≡ c .registers)
 
 -- a step that is not made moves nothing
 abbrev pub StopsBy : Outcome → AbstractLists → AbstractLists → Type 0
@@ -66,7 +63,7 @@ StopsBy (outcome.Refused x) before now = now ≡ before
 
 abbrev pub StepBy : Verdict → Args → AbstractLists → Type 0
 StepBy (Refused x) a b = Unit {0}
-StepBy Accepted a b = RestoredBy (decisionAt a) (stepAt a) b
+StepBy Accepted a b = RestoredBy (decisionAt a) (stepAt a .registers) b
 
 -- of each step: its return, if it has one, restores; and if it is refused or stopped, the abstract lists are as before
 abbrev pub EachStep : List Args → AbstractLists → Type 0
@@ -85,7 +82,3 @@ pub record Claim (s : State) (b : AbstractLists) (cs : List Call) : Type 0 where
 pub record Follows (s : State) : Type 0 where
   pub begins : (b : AbstractLists) × Agree s b
   pub holds : (b : AbstractLists) → Agree s b → (cs : List Call) → AllQuiet (listed b) (allArgs cs s) → Claim s b cs
-
--- an accepted start: all six rules hold, with any image
-abbrev pub AcceptedStart : State → Type 0
-AcceptedStart s = (img : List ℕ) × (startVerdict (s .memory) img (pc (s .registers)) (fcx (s .registers)) (pcxi (s .registers)) ≡ Accepted)

@@ -1,1 +1,30 @@
-// Demand 3.
+// The start, with demand 3: what is accepted here has its lists follow the abstract ones over any series of calls.
+
+use areas::link::Address;
+use inputs::verdict::Verdict;
+use registers::FCX;
+use registers::PC;
+use registers::PCXI;
+use registers::Registers;
+ghost use mathlib.Core.Path.{_≡_};
+ghost use Rattle.memory.specs.Memory.{memory};
+ghost use Rattle.registers.specs.Registers.{pc, fcx, pcxi};
+ghost use Rattle.inputs.specs.Checks.{startVerdict};
+ghost use Rattle.inputs.specs.declared.verdict.Verdict.the-variants as verdict;
+ghost use Rattle.series.specs.Calls.{state};
+ghost use Rattle.series.specs.Claim.{Follows};
+
+// All six rules, of a machine in that state.
+pub fn start(base: Address, window: &[u8], image: &[u8], registers: Registers) -> Verdict
+    ensures { λ r. ⌜ r ≡ startVerdict (memory (base .0) (now (window .entry))) (now (image .entry)) (pc registers) (fcx registers) (pcxi registers) ⌝ }
+    ensures { λ r. ⌜ ((r ≡ verdict.Accepted) → Follows (state registers (memory (base .0) (now (window .entry))))) ⌝ }
+{
+    inputs::checks::try_start(
+        base,
+        window,
+        image,
+        registers.core[PC],
+        registers.core[FCX],
+        registers.core[PCXI],
+    )
+}

@@ -1,3 +1,5 @@
 -- Laws of the pool walk.
 pub mod Texts
 pub mod Starts
+pub mod Walks
+pub mod Blocks

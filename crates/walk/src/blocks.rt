@@ -69,7 +69,14 @@ pub fn begin(image: &[u8], out: &mut [u8; 65536]) -> Walk
             len: long,
         };
     }
-    match try_start(BASE, &window, image, registers.core[PC], registers.core[FCX], registers.core[PCXI]) {
+    match try_start(
+        BASE,
+        &window,
+        image,
+        registers.core[PC],
+        registers.core[FCX],
+        registers.core[PCXI],
+    ) {
         Verdict::Refused(x) => {
             let refused = put_refused(out, 0, x);
             Walk {
@@ -127,7 +134,15 @@ pub fn go_on(image: &[u8], w: Walk, out: &mut [u8; 65536]) -> Walk
         let outcome = s.outcome;
         match outcome {
             Outcome::Made(e) => {
-                at = put_line(out, at, e, pc, registers.core[PC], registers.core[FCX], registers.core[PCXI]);
+                at = put_line(
+                    out,
+                    at,
+                    e,
+                    pc,
+                    registers.core[PC],
+                    registers.core[FCX],
+                    registers.core[PCXI],
+                );
                 made += 1;
                 if is_trap(e) {
                     let trapped = put_end(out, at, made);

@@ -22,7 +22,7 @@ loop-again : tie.Need-loop-again Inv-loop μ-loop
 loop-again c = (omega arith, c .before .before .put-word .kept .0 ∙ c .before .before .before .before .before .before .loop .inv .1, put-turn _ _ _ _ (c .before .before .before .before .before .before .loop .inv .2) (c .before .before .put-word .ensures))
 
 returns : tie.Need-returns Inv-loop μ-loop
-returns c = 
+returns c =
     let e : c .before .loop .i ≡ 16 = omega arith in
     c .before .loop .inv .2 ∙ ap (putWords _ _ _) e
 

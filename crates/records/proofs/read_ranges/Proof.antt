@@ -17,7 +17,7 @@ abbrev μ-loop : tie.MeasureT-loop
 μ-loop core ranges₀ k₀ ranges k = 32 - k
 
 loop-again : tie.Need-loop-again Inv-loop μ-loop
-loop-again c = 
+loop-again c =
     let l = c .before .before .before .before .loop in
     let g : Range = record { lower = c .before .before .word-at .result; upper = c .before .word-at2 .result; mode = c .word-at3 .result } in
     (omega arith, length-set (l .ranges) (l .k) g ∙ l .inv .1, ranges-turn _ (l .ranges) (l .k) g (l .inv .1) (omega arith) (c .before .before .word-at .ensures) (c .before .word-at2 .ensures) (c .word-at3 .ensures) (l .inv .2))

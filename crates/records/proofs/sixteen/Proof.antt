@@ -15,7 +15,7 @@ abbrev μ-loop : tie.MeasureT-loop
 μ-loop core at words₀ i₀ words i = 16 - i
 
 loop-again : tie.Need-loop-again Inv-loop μ-loop
-loop-again c = 
+loop-again c =
     let l = c .before .before .loop in
     (omega arith, length-set (l .words) (l .i) (c .word-at .result) ∙ l .inv .1, read-turn _ _ (l .words) (l .i) _ (omega arith) (c .word-at .ensures) (l .inv .2))
 

@@ -7,12 +7,12 @@ use Rattle.walk.proofs.lines.put_decimal.Statement.{statement}
 use Rattle.walk.proofs.lines.put_decimal.Tie as tie
 
 put-digit-requires-9 : tie.Need-put-digit-requires-9
-put-digit-requires-9 c κs = 
+put-digit-requires-9 c κs =
     let w = (then (then (then (then (then (then (then (c .before .before .before .before .before .before .before .before .before .before .before .before .before .before .before .before .before .before .before .before .before .before .before .before .before .before .before .before .before .before .before .put-digit .ensures) (c .before .before .before .before .before .before .before .before .before .before .before .before .before .before .before .before .before .before .before .before .before .before .before .before .before .before .before .put-digit2 .ensures)) (c .before .before .before .before .before .before .before .before .before .before .before .before .before .before .before .before .before .before .before .before .before .before .before .put-digit3 .ensures)) (c .before .before .before .before .before .before .before .before .before .before .before .before .before .before .before .before .before .before .before .put-digit4 .ensures)) (c .before .before .before .before .before .before .before .before .before .before .before .before .before .before .before .put-digit5 .ensures)) (c .before .before .before .before .before .before .before .before .before .before .before .put-digit6 .ensures)) (c .before .before .before .before .before .before .before .put-digit7 .ensures)) (c .before .before .before .put-digit8 .ensures)) in
     (omega arith, omega (arith, c .before .before .before .before .before .before .before .before .before .before .before .before .before .before .before .before .before .before .before .before .before .before .before .before .before .before .before .before .before .before .before .before .before .before .pre, w .room, w .size))
 
 put-requires : tie.Need-put-requires
-put-requires c κs = 
+put-requires c κs =
     let w = (then (then (then (then (then (then (then (then (c .before .before .before .before .before .before .before .before .before .before .before .before .before .before .before .before .before .before .before .before .before .before .before .before .before .before .before .before .before .before .before .before .before .before .before .before .before .put-digit .ensures) (c .before .before .before .before .before .before .before .before .before .before .before .before .before .before .before .before .before .before .before .before .before .before .before .before .before .before .before .before .before .before .before .before .before .put-digit2 .ensures)) (c .before .before .before .before .before .before .before .before .before .before .before .before .before .before .before .before .before .before .before .before .before .before .before .before .before .before .before .before .before .put-digit3 .ensures)) (c .before .before .before .before .before .before .before .before .before .before .before .before .before .before .before .before .before .before .before .before .before .before .before .before .before .put-digit4 .ensures)) (c .before .before .before .before .before .before .before .before .before .before .before .before .before .before .before .before .before .before .before .before .before .put-digit5 .ensures)) (c .before .before .before .before .before .before .before .before .before .before .before .before .before .before .before .before .before .put-digit6 .ensures)) (c .before .before .before .before .before .before .before .before .before .before .before .before .before .put-digit7 .ensures)) (c .before .before .before .before .before .before .before .before .before .put-digit8 .ensures)) (c .before .before .before .before .before .put-digit9 .ensures)) in
     omega (arith, c .before .before .before .before .before .before .before .before .before .before .before .before .before .before .before .before .before .before .before .before .before .before .before .before .before .before .before .before .before .before .before .before .before .before .before .before .before .before .before .before .pre, w .room, w .size)
 

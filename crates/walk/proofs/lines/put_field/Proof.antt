@@ -10,7 +10,7 @@ use Rattle.walk.proofs.lines.put_field.Tie as tie
 
 returns : tie.Need-returns
 unfolding fieldOf
-returns c = 
+returns c =
     let e = ap length (c .before .before .before .before .before .before .before .before .before .before .hex .ensures) ∙ hex-length _ in
     rw (← c .before .before .before .before .before .before .before .before .before .before .hex .ensures) (roomier (omega arith) (then (c .before .before .before .before .before .before .before .put .ensures) (c .before .before .put2 .ensures)))
 

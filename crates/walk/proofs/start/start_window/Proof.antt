@@ -23,7 +23,7 @@ slice-aggregate-put-word : tie.Need-slice-aggregate-put-word Inv-loop μ-loop
 slice-aggregate-put-word c = sym (ap length (c .before .before .loop .inv .1) ∙ linked-length _)
 
 put-word-requires : tie.Need-put-word-requires Inv-loop μ-loop
-put-word-requires c κs = 
+put-word-requires c κs =
     let e = ap length (c .before .before .before .loop .inv .1) ∙ linked-length _ in
     omega arith
 
@@ -32,7 +32,7 @@ loop-again c = (omega arith, link-turn _ _ _ _ (c .before .before .before .befor
 
 returns : tie.Need-returns Inv-loop μ-loop
 unfolding startBytes
-returns c = 
+returns c =
     let e : c .before .loop .k ≡ 64 = omega arith in
     c .before .loop .inv .1 ∙ ap linked e
 
