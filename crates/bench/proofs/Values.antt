@@ -9,7 +9,10 @@ use Rattle.arithmetic.specs.Arithmetic.{addOf, addsOf, absOf, mulOf}
 use Rattle.bitwise.specs.Shift.{shaLeft, shaRight, shaOf, shOf}
 use Rattle.bitwise.specs.Leading.{run, clsOf, clzOf}
 use Rattle.compare.specs.Compare.{lessSigned}
-use Rattle.bench.specs.Starred.{IntegerValues, Starred}
+use Rattle.fields.specs.Field.{isSet}
+use Rattle.protection.specs.Range.{enables, permits}
+use Rattle.interrupts.specs.Sources.{takes}
+use Rattle.bench.specs.Starred.{IntegerValues, RangeValues, InterruptValues, Starred}
 
 integer-values : IntegerValues
 unfolding bit signed low within clamp count advance wrappedOf carriedOf saturatedOf addOf addsOf absOf mulOf shaLeft shaRight shaOf shOf run clsOf clzOf lessSigned
@@ -30,5 +33,13 @@ integer-values =
       lt-u = refl;
     }
 
+range-values : RangeValues
+unfolding bit isSet enables permits
+range-values = record { inside = refl; outside = refl }
+
+interrupt-values : InterruptValues
+unfolding bit isSet takes
+interrupt-values = record { waits = refl; taken = refl }
+
 pub starred : Starred
-starred = record { integer = integer-values; links = record { address = refl } }
+starred = record { integer = integer-values; links = record { address = refl }; ranges = range-values; interrupts = interrupt-values }

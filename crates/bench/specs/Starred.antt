@@ -7,6 +7,10 @@ use Rattle.bitwise.specs.Shift.{shaOf, shOf}
 use Rattle.bitwise.specs.Leading.{clsOf, clzOf}
 use Rattle.compare.specs.Compare.{ltOf, ltuOf}
 use Rattle.areas.specs.Link.{addressOf}
+use Rattle.protection.specs.Range.{permits}
+use Rattle.protection.specs.declared.range.Range.{Range}
+use Rattle.protection.specs.declared.range.Right.the-variants.{Read}
+use Rattle.interrupts.specs.Sources.{takes}
 
 -- "Integer results". The word that is -31 as a shift count is FFFFFFE1, and that for -32 is FFFFFFE0.
 pub record IntegerValues : Type 0 where
@@ -28,7 +32,23 @@ pub record IntegerValues : Type 0 where
 pub record LinkValues : Type 0 where
   pub address : addressOf (record { 0 = 0xD_0001 }) ≡ record { 0 = 0xD000_0040 }
 
+-- a range from D0000100 to D0000200 that may be read
+abbrev pub range : Range
+range = record { lower = 0xD000_0100; upper = 0xD000_0200; mode = 0x40 }
+
+-- "Traps"
+pub record RangeValues : Type 0 where
+  pub inside : permits range Read 0xD000_01FF ≡ true
+  pub outside : permits range Read 0xD000_0200 ≡ false
+
+-- "Interrupt", with IE 1 and CCPN 5
+pub record InterruptValues : Type 0 where
+  pub waits : takes 0x105 5 ≡ false
+  pub taken : takes 0x105 6 ≡ true
+
 -- the table, a field for each section of document 01
 pub record Starred : Type 0 where
   pub integer : IntegerValues
   pub links : LinkValues
+  pub ranges : RangeValues
+  pub interrupts : InterruptValues

@@ -4,7 +4,11 @@ use areas::link::Link;
 use areas::link::address_of;
 use integer::Integer;
 use integer::compute;
+use interrupts::taken;
 use libc::STDOUT_FILENO;
+use protection::range::Found;
+use protection::range::Right;
+use protection::range::search;
 ghost use Rattle.bench.specs.Starred.{Starred};
 ghost use Rattle.bench.specs.Accepted.{PoolAccepted};
 
@@ -13,6 +17,8 @@ fn main() {
     accepted();
     integer_values();
     link_values();
+    range_values();
+    interrupt_values();
 }
 
 // The table of the starred values, proved of the definitions that the contracts cite.
@@ -31,6 +37,40 @@ fn link_values() {
     text(b": ");
     let a = address_of(Link(0xD_0001));
     word(a.0);
+    text(b"\n");
+}
+
+// A range from D0000100 to D0000200 that may be read, the first one of set 0.
+fn range_values() {
+    text(b"range D0000100 to D0000200: read\n");
+    let mut words = [0; 96];
+    words[0] = 0xD000_0100;
+    words[1] = 0xD000_0200;
+    words[2] = 0x40;
+    let inside = search(&words, 0, Right::Read, 0xD000_01FF);
+    range_row(0xD000_01FF, inside);
+    let outside = search(&words, 0, Right::Read, 0xD000_0200);
+    range_row(0xD000_0200, outside);
+}
+
+fn range_row(address: u32, found: Found) {
+    word(address);
+    match found {
+        Found::By(_) => text(b": in\n"),
+        Found::Nothing => text(b": out\n"),
+    }
+}
+
+fn interrupt_values() {
+    text(b"priority with CCPN 5 and IE 1: taken\n");
+    interrupt_row(5);
+    interrupt_row(6);
+}
+
+fn interrupt_row(level: u8) {
+    word(level as u32);
+    text(b":");
+    flag(taken(0x105, level) as u32);
     text(b"\n");
 }
 

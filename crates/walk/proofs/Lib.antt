@@ -2,4 +2,4 @@
 pub mod Texts
 pub mod Starts
 pub mod Walks
-pub mod Blocks
+pub mod Promises

@@ -23,7 +23,7 @@ use Rattle.walk.specs.Written.{Written}
 use Rattle.walk.specs.Walk.{isTrap, printed, walkFrom}
 
 -- ---- what the steps print, by the first one
-abbrev window : List ℕ → Memory
+abbrev pub window : List ℕ → Memory
 window w = memory 0xD000_0000 w
 
 pub walk-step : (img : List ℕ) (made : ℕ) (r : Registers) (xs : List ℕ) (m : Memory) (s : StepOf) → made < 100000 → s ≡ stepOf img r xs noRanges m
@@ -40,7 +40,7 @@ pub goes-on : {out out′ text due : List ℕ} {at at′ most : ℕ} (rest more 
 goes-on {out} {out′} {text} {due} {at} rest more d e w = ap (λ (t : List ℕ). t ++ more) (w .bytes) ∙ append-assoc (take at out) text more ∙ ap (λ (t : List ℕ). take at out ++ t) (sym e) ∙ d
 
 pub goes-last : {out out′ text due : List ℕ} {at at′ most : ℕ} (rest : List ℕ) → take at out ++ rest ≡ due → rest ≡ text → Written out at text most out′ at′ → take at′ out′ ≡ due
-goes-last {out} rest d e w = w .bytes ∙ ap (λ (t : List ℕ). take _ out ++ t) (sym e) ∙ d
+goes-last {out} {out′} {text} {due} {at} rest d e w = w .bytes ∙ ap (λ (t : List ℕ). take at out ++ t) (sym e) ∙ d
 
 -- ---- the loop's invariant, from a walk's registers, requests and window after `made₀` steps
 module _ (img : List ℕ) (made₀ : ℕ) (r₀ : Registers) (xs₀ w₀ : List ℕ) where
@@ -68,7 +68,7 @@ module _ (img : List ℕ) (made₀ : ℕ) (r₀ : Registers) (xs₀ w₀ : List 
       next = walk-step img made r xs (window w) (stepped o r′ xs′ (window w′)) below (is ∙ rw none)
 
       module _ {v : Event} (made-it : o ≡ Made v) where
-        line : List ℕ
+        abbrev pub line : List ℕ
         line = lineOf v (pc r) (pc r′) (fcx r′) (pcxi r′)
 
         pub on : {out′ : List ℕ} {at′ : ℕ} → Ready img r′ (window w′) → length w′ ≡ length w → at ≤ 65408 → Written out at line 41 out′ at′ → isTrap v ≡ false
