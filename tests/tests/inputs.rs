@@ -45,14 +45,26 @@ fn window_case(base: u32, len: usize, ok: bool) {
 
 #[test]
 fn window_lengths() {
-    for (len, ok) in [(0, false), (63, false), (64, true), (65, false), (128, true), (65_472, true), (65_536, true), (65_537, false), (65_600, false)] {
+    for (len, ok) in [
+        (0, false),
+        (63, false),
+        (64, true),
+        (65, false),
+        (128, true),
+        (65_472, true),
+        (65_536, true),
+        (65_537, false),
+        (65_600, false),
+    ] {
         window_case(BASE, len, ok);
     }
 }
 
 #[test]
 fn window_bases() {
-    for (base, ok) in [(BASE + 63, false), (BASE + 64, true), (BASE + 65, false), (0, true), (1, false), (0x4000_0040, true)] {
+    for (base, ok) in
+        [(BASE + 63, false), (BASE + 64, true), (BASE + 65, false), (0, true), (1, false), (0x4000_0040, true)]
+    {
         window_case(base, 64, ok);
     }
 }
@@ -211,7 +223,8 @@ fn the_largest_image() {
 
 #[test]
 fn odd_starting_addresses() {
-    for (pc, ok) in [(0u32, true), (1, false), (2, true), (0x8000_0001, false), (u32::MAX, false), (u32::MAX - 1, true)] {
+    for (pc, ok) in [(0u32, true), (1, false), (2, true), (0x8000_0001, false), (u32::MAX, false), (u32::MAX - 1, true)]
+    {
         step(BASE, &[0; 64], &small(), pc, if ok { Ok(()) } else { refused(4, 0) });
     }
 }
@@ -315,7 +328,13 @@ fn lists_of_a_refused_window() {
 
 #[test]
 fn records_are_found_where_they_begin() {
-    let record = |k: u32| Record { op: (k % 79) as u8, c: (k % 16) as u8, a: (k / 3 % 16) as u8, b: (k / 5 % 16) as u8, imm: k.wrapping_mul(0x9E37_79B9) };
+    let record = |k: u32| Record {
+        op: (k % 79) as u8,
+        c: (k % 16) as u8,
+        a: (k / 3 % 16) as u8,
+        b: (k / 5 % 16) as u8,
+        imm: k.wrapping_mul(0x9E37_79B9),
+    };
     let bodies = [
         Body { load: 0x100, records: (0..3).map(record).collect() },
         Body { load: 0x10C, records: (3..5).map(record).collect() },

@@ -1,6 +1,7 @@
 //! The outcomes of an independent emulator, every line, against the proved integer operations.
 
 use deqbaryn_tests::integer::{answer, compute, NAMES};
+use deqbaryn_tests::model::{integer, operations};
 
 const AV: u32 = 1 << 28;
 const SAV: u32 = 1 << 27;
@@ -79,6 +80,15 @@ fn rsub_is_sub_reversed() {
     assert_eq!(subs.len(), 100);
     for l in subs {
         assert_eq!(compute("RSUB", l.b, l.a, l.before), (l.result, l.after));
+    }
+}
+
+#[test]
+fn the_second_model_agrees_on_every_line() {
+    for l in lines() {
+        let place = operations::NAMES.iter().position(|n| *n == l.name).unwrap();
+        let answer = integer::compute(operations::Operation::ALL[place], l.a, l.b, l.before);
+        assert_eq!(answer, compute(&l.name, l.a, l.b, l.before), "{} {:08X} {:08X}", l.name, l.a, l.b);
     }
 }
 

@@ -2,7 +2,7 @@
 -- Assumes nothing.
 use Prim.Native.Nat.{ℕ, _<_}
 use native.Mathlib.Omega.{arith}
-use mathlib.Core.Path.{_≡_, refl, ap, _∙_}
+use mathlib.Core.Path.{_≡_, ap, _∙_}
 use mathlib.Core.List.{List}
 use lib.ListN.{length}
 use borrow.Author.Tests.{eq-eqb, ne-eqb}
@@ -18,14 +18,14 @@ use Rattle.inputs.specs.Checks.{startVerdict}
 use Rattle.inputs.specs.declared.verdict.Refusal.{Refusal}
 use Rattle.inputs.specs.declared.verdict.Refusal.the-variants as refusal
 use Rattle.inputs.specs.declared.verdict.Verdict.{Verdict}
-use Rattle.machine.specs.Step.{StepOf, stepped, stepOf}
-use Rattle.machine.specs.Run.{RunOf, ran, runOf}
+use Rattle.machine.specs.Step.{stepped, stepOf}
+use Rattle.machine.specs.Run.{ran, runOf}
 use Rattle.machine.specs.Permits.{fetchOfStep, dataOfStep, PermitSays}
 use Rattle.machine.specs.declared.answer.Outcome.{Outcome}
 use Rattle.machine.specs.declared.answer.Permit.{Permit}
 use Rattle.records.specs.CoreRecord.{registersIn, requestsIn, rangesOf}
 use Rattle.deqbaryn.specs.Answers.{permitsNumber, outcomeAnswer, wrongLength, verdictAnswer}
-use Rattle.deqbaryn.specs.Host.{startAnswer, Left, left, stepStored, runStored, afterStep, stepLeft, StepAnswer, StepAnswers, afterRun, runLeft, ranAnswer, runAnswer}
+use Rattle.deqbaryn.specs.Host.{startAnswer, left, stepStored, runStored, stepLeft, StepAnswer, StepAnswers, runLeft, runAnswer}
 
 -- the numbers fit a byte
 pub number-small : (x : Refusal) → numberOf x < 256

@@ -1,7 +1,6 @@
 // The answers as numbers: the kind in bits 7:0, its number in 15:8, a TIN in 23:16, the permitting ranges in 31:24, and the high word.
 
 use events::event::Event;
-use events::event::Stop;
 use events::event::stop_number;
 use inputs::verdict::Refusal;
 use inputs::verdict::Verdict;

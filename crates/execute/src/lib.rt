@@ -8,6 +8,7 @@ use entries::entry::enter_fcd;
 use entries::entry::trap;
 use events::event::Ending;
 use events::event::Event;
+use events::event::passed_on;
 use image::fetch::Instruction;
 use jumps::execute_jump;
 use moves::execute_integer;
@@ -72,12 +73,12 @@ fn finish(
 {
     match how {
         How::Done => Ending::Made(Event::Instruction),
-        How::Depleted => enter_fcd(base, window, d, a, core),
+        How::Depleted => passed_on(enter_fcd(base, window, d, a, core)),
         How::Trap(t) => {
             let pc = core[PC];
-            trap(base, window, d, a, core, t, pc)
+            passed_on(trap(base, window, d, a, core, t, pc))
         }
-        How::TrapAfter(t) => trap(base, window, d, a, core, t, next),
+        How::TrapAfter(t) => passed_on(trap(base, window, d, a, core, t, next)),
         How::Stopped(s) => Ending::Stopped(s),
     }
 }

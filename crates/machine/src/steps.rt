@@ -11,6 +11,7 @@ use entries::entry::interrupt;
 use entries::entry::trap;
 use events::event::Ending;
 use events::event::Event;
+use events::event::passed_on;
 use events::trap::CODE;
 use execute::execute_instruction;
 use image::fetch::Fetched;
@@ -62,13 +63,13 @@ fn one(
     ensures { λ _. ⌜ AccessNotes interrupts (now (image .entry)) (registers (now (d .entry)) (now (a .entry)) (now (core .entry))) (rangesIn (now (ranges .entry))) (now (accessed .entry)) (now (accessed .exit)) ⌝ }
 {
     if interrupts {
-        return interrupt(base, window, d, a, core, best.source, best.level);
+        return passed_on(interrupt(base, window, d, a, core, best.source, best.level));
     }
     let pc = core[PC];
     match check_access(core, ranges, Right::Execute, pc, fetched) {
-        Check::Fails(t) => trap(base, window, d, a, core, t, pc),
+        Check::Fails(t) => passed_on(trap(base, window, d, a, core, t, pc)),
         Check::Passes => match fetch(image, pc) {
-            Fetched::Nothing => trap(base, window, d, a, core, CODE, pc),
+            Fetched::Nothing => passed_on(trap(base, window, d, a, core, CODE, pc)),
             Fetched::Found(i) => {
                 execute_instruction(base, window, d, a, core, ranges, accessed, i)
             }

@@ -1,6 +1,6 @@
 -- Blocks: the last one of a walk, and one that others follow.
 -- Assumes nothing.
-use Prim.Native.Nat.{ℕ, _-_, _≤_, _<_}
+use Prim.Native.Nat.{ℕ, _-_, _^_, _≤_, _<_}
 use native.Mathlib.Omega.{arith}
 use mathlib.Core.Path.{_≡_, refl, sym, ap, _∙_}
 use mathlib.Core.Bool.{true, false}
@@ -21,11 +21,12 @@ use Rattle.inputs.specs.declared.verdict.Verdict.{Verdict}
 use Rattle.inputs.specs.declared.verdict.Verdict.the-variants.{Accepted, Refused}
 use Rattle.machine.specs.Inner.{Ready}
 use Rattle.decisions.specs.Valid.{Bytes}
-use Rattle.decisions.proofs.Owned.{array-each}
+use Rattle.decisions.proofs.Owned.{array-each, field-long}
 use Rattle.walk.specs.Start.{startBytes, startRegisters}
 use Rattle.walk.specs.Text.{headerText, refusedOf, longText}
-use Rattle.walk.specs.Walk.{walkFrom, walkOf, restOf, BlockOf, Going, Onward}
+use Rattle.walk.specs.Walk.{walkFrom, walkOf, restOf, Block, Onward}
 use Rattle.walk.specs.declared.blocks.Walk.{Walk}
+use Rattle.walk.proofs.blocks.Walk as row
 
 never : true ≡ false → ⊥
 never e = let z : _≡_ {A = ℕ} 0 1 = cc in omega arith
@@ -38,16 +39,20 @@ unfolding restOf
 rest-due img w e = rw e
 
 -- of a walk that is over nothing is left
-pub block-last : (due img : List ℕ) (w : Walk) (out : List ℕ) → w .over ≡ true → take (w .len) out ≡ due → BlockOf due img w out
+pub block-last : (due img : List ℕ) (w : Walk) (out : List ℕ) → w .over ≡ true → w .len ≤ 65536 → take (w .len) out ≡ due → Block due img w out
 unfolding restOf
-block-last due img w out e t = rw (e, append-nil) t
+block-last due img w out e l t = record { bytes = rw (e, append-nil) t; fits = l; ready = λ f. absurd (never (sym e ∙ f)) }
 
-pub not-going : (img : List ℕ) (w : Walk) → w .over ≡ true → Going img w
-not-going img w e f = absurd (never (sym e ∙ f))
+pub next-last : (img : List ℕ) (v w : Walk) (out : List ℕ) → v .over ≡ false → w .over ≡ true → w .len ≤ 65536 → take (w .len) out ≡ dueOf img v → Block (restOf img v) img w out × Onward v w
+next-last img v w out f e l t = (block-last (restOf img v) img w out e l (t ∙ sym (rest-due img v f)), record { more = λ g. absurd (never (sym e ∙ g)); most = λ g. absurd (never (sym e ∙ g)) })
 
--- the three promises of the next block
-pub last-promises : (img : List ℕ) (v w : Walk) (out : List ℕ) → v .over ≡ false → w .over ≡ true → take (w .len) out ≡ dueOf img v → BlockOf (restOf img v) img w out × (Going img w × Onward v w)
-last-promises img v w out f e t = (block-last (restOf img v) img w out e (t ∙ sym (rest-due img v f)), (not-going img w e, λ g. absurd (never (sym e ∙ g))))
+-- of one that is not, what the steps print
+pub block-more : (due img : List ℕ) (w : Walk) (out : List ℕ) → w .over ≡ false → w .len ≤ 65536 → take (w .len) out ++ dueOf img w ≡ due → Ready img (w .registers) (memory 0xD000_0000 (w .window)) → Block due img w out
+block-more due img w out e l t y = record { bytes = rw (rest-due img w e) t; fits = l; ready = λ f. y }
+
+pub next-more : (img : List ℕ) (v w : Walk) (out : List ℕ) → v .over ≡ false → w .over ≡ false → w .len ≤ 65536 → take (w .len) out ++ dueOf img w ≡ dueOf img v → Ready img (w .registers) (memory 0xD000_0000 (w .window))
+    → v .made < w .made → w .made ≤ 100000 → Block (restOf img v) img w out × Onward v w
+next-more img v w out f e l t y h k = (block-more (restOf img v) img w out e l (t ∙ sym (rest-due img v f)) y, record { more = λ g. h; most = λ g. k })
 
 -- ---- the first block
 accepted-first : (v u : Verdict) → andThen v u ≡ Accepted → v ≡ Accepted
@@ -75,6 +80,12 @@ module _ (img : List ℕ) where
   unfolding startVerdict
   start-step w r g = accepted-first _ _ g
 
--- an array of bytes
-pub bytes-owned : {n : ℕ} {xs : List ℕ} {vs : List Val} → Is (Array (UInt w8) n) xs vs → Bytes xs
-bytes-owned {n} {xs} {vs} p = record { each = λ k. array-each (UInt w8) (λ (v : ℕ). v < 256) (λ v us q. q .1 .fits) n xs vs p k 0 (omega arith) }
+-- ---- the window as an array of bytes
+byte : (v : ℕ) (us : List Val) → Is (UInt w8) v us → v < 2 ^ 8
+byte v us p = p .1
+
+pub window-bytes : {n : ℕ} {xs : List ℕ} {vs : List Val} → Is (Array (UInt w8) n) xs vs → Bytes xs
+window-bytes {n} {xs} {vs} p = record { each = λ k. array-each (UInt w8) (λ (v : ℕ). v < 2 ^ 8) byte n xs vs p k 0 (omega arith) }
+
+pub window-long : (w : Walk) {vs : List Val} → Is (row.the-row) w vs → length (w .window) ≡ 4096
+window-long w p = field-long (UInt w8) ℕ (λ v. v) (λ (v : ℕ). v < 2 ^ 8) byte 4096 (w .window) (p .0 .0) (p .1 .1 .0)

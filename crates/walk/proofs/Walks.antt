@@ -50,14 +50,13 @@ module _ (img : List ℕ) (made₀ : ℕ) (r₀ : Registers) (xs₀ w₀ : List 
   pub record Turn (out : List ℕ) (made : ℕ) (r : Registers) (xs w : List ℕ) (at : ℕ) : Type 0 where
     pub ready : Ready img r (window w)
     pub size : length w ≡ 4096
-    pub room : length out ≡ 65536
     pub since : made₀ ≤ made
     pub filled : at ≤ 41 * (made - made₀)
     pub bound : at ≤ 65449
     pub text : take at out ++ walkFrom (100000 - made) img made r xs (window w) ≡ due
 
-  pub turn-start : (out : List ℕ) → Ready img r₀ (window w₀) → length w₀ ≡ 4096 → length out ≡ 65536 → Turn out made₀ r₀ xs₀ w₀ 0
-  turn-start out y s l = record { ready = y; size = s; room = l; since = omega arith; filled = omega arith; bound = omega arith; text = refl }
+  pub turn-start : (out : List ℕ) → Ready img r₀ (window w₀) → length w₀ ≡ 4096 → Turn out made₀ r₀ xs₀ w₀ 0
+  turn-start out y s = record { ready = y; size = s; since = omega arith; filled = omega arith; bound = omega arith; text = refl }
 
   module _ {out : List ℕ} {made : ℕ} {r : Registers} {xs w : List ℕ} {at : ℕ} (t : Turn out made r xs w at) where
     pub ended : {out′ : List ℕ} {most at′ : ℕ} → 100000 ≤ made → Written out at (endOf made) most out′ at′ → take at′ out′ ≡ due
@@ -77,7 +76,6 @@ module _ (img : List ℕ) (made₀ : ℕ) (r₀ : Registers) (xs₀ w₀ : List 
             record {
               ready = y;
               size = l ∙ t .size;
-              room = k .size ∙ t .room;
               since = omega (arith, t .since);
               filled = omega (arith, t .since, t .filled, k .room);
               bound = omega (arith, k .room);

@@ -55,14 +55,13 @@ unfoldable pub restOf : List ℕ → Walk → List ℕ
 restOf img w =
     cond (w .over) [] (walkFrom (100000 - w .made) img (w .made) (w .registers) (w .requests) (memory 0xD000_0000 (w .window)))
 
--- a block: its bytes, followed by those still to be printed, are `due`
-abbrev pub BlockOf : List ℕ → List ℕ → Walk → List ℕ → Type 0
-BlockOf due img w out = take (w .len) out ++ restOf img w ≡ due
-
--- a walk that is not over can be gone on with
-abbrev pub Going : List ℕ → Walk → Type 0
-Going img w = w .over ≡ false → Ready img (w .registers) (memory 0xD000_0000 (w .window))
+-- a block: its bytes, followed by those still to be printed, are those that were due; and a walk that is not over can be gone on with
+pub record Block (due img : List ℕ) (w : Walk) (out : List ℕ) : Type 0 where
+  pub bytes : take (w .len) out ++ restOf img w ≡ due
+  pub fits : w .len ≤ 65536
+  pub ready : w .over ≡ false → Ready img (w .registers) (memory 0xD000_0000 (w .window))
 
 -- each block makes a step or is the last one, so that the blocks end
-abbrev pub Onward : Walk → Walk → Type 0
-Onward before after = after .over ≡ false → (before .made < after .made) × (after .made ≤ 100000)
+pub record Onward (before after : Walk) : Type 0 where
+  pub more : after .over ≡ false → before .made < after .made
+  pub most : after .over ≡ false → after .made ≤ 100000

@@ -23,7 +23,7 @@ ghost use mathlib.Core.Path.{_≡_};
 ghost use mathlib.Core.Bool.{false};
 ghost use Rattle.memory.specs.Memory.{memory};
 ghost use Rattle.machine.specs.Inner.{Ready};
-ghost use Rattle.walk.specs.Walk.{isTrap, walkOf, restOf, BlockOf, Going, Onward};
+ghost use Rattle.walk.specs.Walk.{isTrap, walkOf, restOf, Block, Onward};
 
 // Where a walk stands after a block of len bytes.
 pub struct Walk {
@@ -52,8 +52,7 @@ fn is_trap(e: Event) -> bool
 
 // The first block: the header, or all that an image of another kind prints.
 pub fn begin(image: &[u8], out: &mut [u8; 65536]) -> Walk
-    ensures { λ r. ⌜ BlockOf (walkOf (now (image .entry))) (now (image .entry)) r (now (out .exit)) ⌝ }
-    ensures { λ r. ⌜ Going (now (image .entry)) r ⌝ }
+    ensures { λ r. ⌜ Block (walkOf (now (image .entry))) (now (image .entry)) r (now (out .exit)) ⌝ }
 {
     let window = start_window();
     let registers = start_registers(image);
@@ -106,8 +105,7 @@ pub fn begin(image: &[u8], out: &mut [u8; 65536]) -> Walk
 pub fn go_on(image: &[u8], w: Walk, out: &mut [u8; 65536]) -> Walk
     requires { ⌜ Ready (now image) (w .registers) (memory 0xD000_0000 (w .window)) ⌝ }
     requires { ⌜ w .over ≡ false ⌝ }
-    ensures { λ r. ⌜ BlockOf (restOf (now (image .entry)) w) (now (image .entry)) r (now (out .exit)) ⌝ }
-    ensures { λ r. ⌜ Going (now (image .entry)) r ⌝ }
+    ensures { λ r. ⌜ Block (restOf (now (image .entry)) w) (now (image .entry)) r (now (out .exit)) ⌝ }
     ensures { λ r. ⌜ Onward w r ⌝ }
 {
     let ranges = no_ranges();

@@ -1,8 +1,9 @@
 //! The proved code beside plain Rust, in one run: the best of several rounds of each, turn about.
 
-use deqbaryn_tests::inputs;
-use deqbaryn_tests::model::checks;
 use deqbaryn_tests::model::image::{build, Body, Record};
+use deqbaryn_tests::model::{checks, machine};
+use deqbaryn_tests::worked::{record, Worked, BASE};
+use deqbaryn_tests::{host, inputs, model::operations::Operation, workloads};
 use std::hint::black_box;
 use std::time::{Duration, Instant};
 
@@ -31,7 +32,13 @@ fn line(what: &str, calls: u32, unit: u32, [proved, plain]: [Duration; 2]) {
 
 /// An image of n bodies, with every operation in turn.
 fn image(bodies: usize, records: usize) -> Vec<u8> {
-    let record = |k: usize| Record { op: (k % 79) as u8, c: (k % 16) as u8, a: (k / 16 % 16) as u8, b: (k % 13) as u8, imm: k as u32 };
+    let record = |k: usize| Record {
+        op: (k % 79) as u8,
+        c: (k % 16) as u8,
+        a: (k / 16 % 16) as u8,
+        b: (k % 13) as u8,
+        imm: k as u32,
+    };
     build(
         &(0..bodies)
             .map(|i| Body { load: 0x8000_0000 + 0x10_0000 * i as u32, records: (0..records).map(record).collect() })
@@ -49,6 +56,43 @@ fn window() -> Vec<u8> {
     window
 }
 
+/// Steps of one run.
+const STEPS: u32 = 100_000;
+
+/// Steps a second of both, in millions, and how many times as many the proved code makes.
+fn rate(what: &str, steps: u32, [proved, plain]: [Duration; 2]) {
+    let each = |d: Duration| steps as f64 / d.as_secs_f64() / 1e6;
+    println!("{what:<40} {:>9.1} {:>9.1} {:>6.2}", each(proved), each(plain), each(proved) / each(plain));
+}
+
+/// Both sides go on from where they were: no state is copied between the calls.
+fn steps(what: &str, worked: Worked, calls: u32, n: Option<u32>) {
+    let Worked { core, window, image } = worked;
+    let (mut proved, mut plain) = ((core.to_record(), window.clone()), (core.to_record(), window));
+    let expected = n.map_or(0, |n| (n as u64) << 32);
+    let best = shortest(
+        calls,
+        || {
+            let (core, window) = &mut proved;
+            let answer = match n {
+                Some(n) => host::run(core, BASE, window, black_box(&image), n),
+                None => host::step(core, BASE, window, black_box(&image)),
+            };
+            assert_eq!(answer & host::COMPARED, expected);
+        },
+        || {
+            let (core, window) = &mut plain;
+            let answer = match n {
+                Some(n) => machine::run(core, BASE, window, black_box(&image), n),
+                None => machine::step(core, BASE, window, black_box(&image)),
+            };
+            assert_eq!(answer, expected);
+        },
+    );
+    assert!(proved == plain, "{what}: the two sides differ");
+    rate(what, calls * n.unwrap_or(1), best);
+}
+
 fn main() {
     println!("{:<40} {:>9} {:>9} {:>6}", "nanoseconds for each", "proved", "plain", "ratio");
     for (bodies, records) in [(1, 65536), (16, 4096), (1, 8)] {
@@ -63,8 +107,25 @@ fn main() {
     let window = window();
     for (areas, fcx, pcxi) in [(1024, 0xD_0000, 0xD_0001), (8, 0xD_03F8, 0xD_03F9)] {
         let proved = || inputs::check_lists(0xD000_0000, black_box(&window), fcx, pcxi);
-        let plain = || checks::window(0xD000_0000, window.len()).and_then(|()| checks::lists(0xD000_0000, black_box(&window), fcx, pcxi));
+        let plain = || {
+            checks::window(0xD000_0000, window.len())
+                .and_then(|()| checks::lists(0xD000_0000, black_box(&window), fcx, pcxi))
+        };
         assert_eq!((proved(), plain()), (Ok(()), Ok(())));
         line(&format!("area of two lists, {areas} in all"), 256, areas, shortest(256, proved, plain));
     }
+    println!("\n{:<40} {:>9} {:>9} {:>6}", "millions of steps a second", "proved", "plain", "ratio");
+    for (what, worked) in [
+        ("run, integer loop", workloads::integer()),
+        ("run, load and store loop", workloads::loads_and_stores()),
+        ("run, call and return loop", workloads::calls()),
+        ("run, mix of seed 1", workloads::mix(1)),
+        ("run, mix of seed 2", workloads::mix(2)),
+        ("run, mix of seed 2, protection on", workloads::protected(workloads::mix(2))),
+    ] {
+        steps(what, worked, 4, Some(STEPS));
+    }
+    let small = [record(Operation::Add, 1, 1, 16, 1), record(Operation::J, 0, 0, 0, 4u32.wrapping_neg())];
+    steps("single steps, image of 2 records", Worked::new(&small), 20_000, None);
+    steps("single steps, integer loop", workloads::integer(), 20_000, None);
 }

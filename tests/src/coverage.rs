@@ -1,0 +1,167 @@
+//! What a series of steps has met.
+
+use crate::model::core::Core;
+use crate::model::event::{Event, Stop, FCD, SYS_CLASS, TRAPS};
+use crate::model::fields::PROTECTION_ON;
+use crate::model::operations::NAMES;
+use std::fmt;
+
+/// Numbers of stops that exist, and of refusals.
+const STOPS: [u8; 2] = [11, 12];
+const REFUSALS: [u8; 6] = [1, 2, 3, 4, 5, 6];
+
+pub struct Coverage {
+    pub steps: u64,
+    pub fetched: [u64; 79],
+    /// Executed without a trap of its own.
+    pub done: [u64; 79],
+    instructions: u64,
+    interrupts: [u64; 16],
+    /// FCD entries after an instruction's own save, after an interrupt's and after another trap's.
+    fcd_after: [u64; 3],
+    traps: [[u64; 256]; 7],
+    stops: [u64; 256],
+    refusals: [u64; 256],
+    accepted: u64,
+    wrong_length: u64,
+    runs: u64,
+    empty_runs: u64,
+    runs_stopped_midway: u64,
+    steps_with_protection: u64,
+    pub ties: u64,
+    /// By PRS, IO, IS, GW, CDE, and by CDC.
+    psw: [u64; 128],
+    cdc: [u64; 128],
+}
+
+impl Default for Coverage {
+    fn default() -> Coverage {
+        Coverage {
+            steps: 0,
+            fetched: [0; 79],
+            done: [0; 79],
+            instructions: 0,
+            interrupts: [0; 16],
+            fcd_after: [0; 3],
+            traps: [[0; 256]; 7],
+            stops: [0; 256],
+            refusals: [0; 256],
+            accepted: 0,
+            wrong_length: 0,
+            runs: 0,
+            empty_runs: 0,
+            runs_stopped_midway: 0,
+            steps_with_protection: 0,
+            ties: 0,
+            psw: [0; 128],
+            cdc: [0; 128],
+        }
+    }
+}
+
+impl Coverage {
+    pub fn begins(&mut self, core: &Core) {
+        self.psw[(core.psw >> 7 & 0x7F) as usize] += 1;
+        self.cdc[(core.psw & 0x7F) as usize] += 1;
+        self.steps_with_protection += (core.syscon & PROTECTION_ON != 0) as u64;
+    }
+
+    pub fn outcome(&mut self, outcome: Result<Event, Stop>) {
+        let counter = match outcome {
+            Ok(Event::Instruction) => &mut self.instructions,
+            Ok(Event::Interrupt { source }) => &mut self.interrupts[source as usize],
+            Ok(Event::Trap(trap)) => &mut self.traps[trap.class as usize][trap.tin as usize],
+            Err(stop) => &mut self.stops[stop.number() as usize],
+        };
+        *counter += 1;
+        self.steps += outcome.is_ok() as u64;
+    }
+
+    /// The entries of one step.
+    pub fn entries(&mut self, entries: &[Event]) {
+        let counter = match entries {
+            [Event::Trap(FCD)] => 0,
+            [Event::Interrupt { .. }, Event::Trap(FCD)] => 1,
+            [Event::Trap(_), Event::Trap(FCD)] => 2,
+            _ => return,
+        };
+        self.fcd_after[counter] += 1;
+    }
+
+    /// A call's answer, as far as no step tells it.
+    pub fn answer(&mut self, answer: u64) {
+        match answer as u8 {
+            4 => self.refusals[(answer >> 8) as u8 as usize] += 1,
+            5 => self.wrong_length += 1,
+            6 => self.accepted += 1,
+            _ => {}
+        }
+    }
+
+    pub fn run(&mut self, n: u32, answer: u64) {
+        let made = (answer >> 32) as u32;
+        self.runs += 1;
+        self.empty_runs += (n == 0) as u64;
+        self.runs_stopped_midway += (answer as u8 == 3 && made > 0) as u64;
+    }
+
+    /// Every count with its name.
+    fn counts(&self) -> Vec<(String, u64)> {
+        let mut counts = vec![
+            ("instruction".into(), self.instructions),
+            ("FCD after own save".into(), self.fcd_after[0]),
+            ("FCD after interrupt".into(), self.fcd_after[1]),
+            ("FCD after trap".into(), self.fcd_after[2]),
+            ("start accepted".into(), self.accepted),
+            ("record of a wrong length".into(), self.wrong_length),
+            ("run".into(), self.runs),
+            ("run of 0 steps".into(), self.empty_runs),
+            ("run stopped after a step".into(), self.runs_stopped_midway),
+            ("step with protection on".into(), self.steps_with_protection),
+            ("interrupt at a tie".into(), self.ties),
+        ];
+        counts.extend((0..16).map(|k| (format!("interrupt of source {k}"), self.interrupts[k])));
+        for trap in TRAPS {
+            let n = self.traps[trap.class as usize][trap.tin as usize];
+            counts.push((format!("trap {}/{}", trap.class, trap.tin), n));
+        }
+        counts.push((format!("trap {SYS_CLASS}"), self.traps[SYS_CLASS as usize].iter().sum()));
+        counts.extend(STOPS.map(|n| (format!("stop {n}"), self.stops[n as usize])));
+        counts.extend(REFUSALS.map(|n| (format!("refusal {n}"), self.refusals[n as usize])));
+        for (k, name) in NAMES.iter().enumerate() {
+            counts.push(((*name).into(), self.fetched[k]));
+            // SYSCALL does nothing but trap
+            if *name != "SYSCALL" {
+                counts.push((format!("{name} without a trap"), self.done[k]));
+            }
+        }
+        counts
+    }
+
+    /// Every pattern of PSW's fields, too many to be printed.
+    fn patterns(&self) -> Vec<(String, u64)> {
+        let fields = self.psw.iter().enumerate().map(|(k, n)| (format!("PSW bits 13 to 7 {k:07b}"), *n));
+        fields.chain(self.cdc.iter().enumerate().map(|(k, n)| (format!("CDC {k:07b}"), *n))).collect()
+    }
+
+    /// What was never met.
+    pub fn missing(&self) -> Vec<String> {
+        let all = self.counts().into_iter().chain(self.patterns());
+        all.filter(|(_, n)| *n == 0).map(|(name, _)| name).collect()
+    }
+}
+
+impl fmt::Display for Coverage {
+    fn fmt(&self, f: &mut fmt::Formatter) -> fmt::Result {
+        writeln!(f, "{:<26}{:>9}", "step", self.steps)?;
+        let rarest = self.patterns().into_iter().min_by_key(|(_, n)| *n).unwrap();
+        writeln!(f, "the rarest of PSW's patterns is {}, before {} steps", rarest.0, rarest.1)?;
+        for row in self.counts().chunks(4) {
+            for (name, n) in row {
+                write!(f, "{name:<26}{n:>9}   ")?;
+            }
+            writeln!(f)?;
+        }
+        Ok(())
+    }
+}

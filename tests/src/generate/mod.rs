@@ -1,0 +1,96 @@
+//! Series of calls, each made from a seed.
+
+pub mod code;
+pub mod draw;
+pub mod plan;
+pub mod state;
+pub mod window;
+
+use crate::model::core::{Range, RECORD};
+use draw::Draw;
+use plan::Plan;
+
+/// What the host sets before a call.
+#[derive(Debug, Clone, Copy)]
+pub enum Change {
+    Request(usize, u32),
+    Range(usize, Range),
+}
+
+#[derive(Debug, Clone, Copy)]
+pub enum Kind {
+    Step,
+    Run(u32),
+}
+
+#[derive(Debug, Clone)]
+pub struct Call {
+    pub changes: Vec<Change>,
+    /// Index of the image.
+    pub image: usize,
+    pub kind: Kind,
+    /// Bytes of the core's record that are handed over.
+    pub length: usize,
+}
+
+pub struct Series {
+    pub base: u32,
+    pub window: Vec<u8>,
+    pub core: [u8; RECORD],
+    pub images: Vec<Vec<u8>>,
+    pub calls: Vec<Call>,
+}
+
+fn change(draw: &mut Draw, plan: &Plan) -> Change {
+    if draw.percent(75) {
+        Change::Request(draw.below(16) as usize, state::request(draw))
+    } else {
+        let place = draw.below(32) as usize;
+        Change::Range(place, state::range(draw, plan, place % 8 >= 4))
+    }
+}
+
+fn call(draw: &mut Draw, plan: &Plan) -> Call {
+    let changes = if draw.percent(25) { draw.within(1, 4) } else { 0 };
+    Call {
+        changes: (0..changes).map(|_| change(draw, plan)).collect(),
+        image: draw.pick(&[0, 0, 0, 0, 0, 0, 0, 0, 0, 0, 0, 0, 0, 1, 1, 2]),
+        kind: match draw.below(2) {
+            0 => Kind::Step,
+            _ => Kind::Run(draw.pick(&[0, 1, 2, 3, 5, 9, 17, 40, 90])),
+        },
+        length: if draw.percent(1) { draw.pick(&[0, 1, 612, 615, 617, 620]) } else { RECORD },
+    }
+}
+
+/// A window or base that rule 1 refuses.
+fn refused_window(draw: &mut Draw, series: &mut Series) {
+    match draw.below(6) {
+        0 => series.base += draw.within(1, 63),
+        1 => series.base = draw.pick(&[0xE000_0000, 0xF000_0000, 0xFFFF_FFC0]),
+        2 => series.window.push(0),
+        3 => series.window.clear(),
+        4 => series.window = vec![0; 65_600],
+        _ => {
+            series.base = 0xDFFF_FFC0;
+            series.window.resize(128, 0);
+        }
+    }
+}
+
+pub fn series(seed: u64) -> Series {
+    let draw = &mut Draw::new(seed);
+    let plan = Plan::new(draw);
+    let (mut window, fcx, pcxi) = window::window(draw, &plan);
+    let mut core = state::core(draw, &plan, fcx, pcxi);
+    if !plan.tame && draw.percent(60) {
+        window::damage(draw, &plan, &mut window, &mut core);
+    }
+    let images = vec![code::image(draw, &plan), code::image(draw, &plan), code::damaged(draw, &plan)];
+    let calls = (0..draw.within(3, 30)).map(|_| call(draw, &plan)).collect();
+    let mut series = Series { base: plan.base, window, core: core.to_record(), images, calls };
+    if draw.percent(3) {
+        refused_window(draw, &mut series);
+    }
+    series
+}

@@ -1,0 +1,154 @@
+//! The step, the run, and the host's three functions.
+
+use super::checks;
+use super::code::Code;
+use super::core::{Core, RECORD};
+use super::event::{answer, Event, Stop, Undone, PSE};
+use super::fields::{icr, request};
+use super::observer::Observer;
+use super::operations::Operation::{Syscall, Trapsv, Trapv};
+use super::protection::Access;
+
+/// A machine whose inputs were accepted.
+pub struct Machine<'a, O> {
+    pub core: Core,
+    pub base: u32,
+    pub window: &'a mut [u8],
+    pub observer: O,
+    code: Code<'a>,
+    /// Priority number and source of the foremost request, or `UNKNOWN`.
+    foremost: (u32, usize),
+}
+
+/// Above every CCPN: the requests are looked through once IE is 1.
+const UNKNOWN: (u32, usize) = (256, 0);
+
+/// The foremost of the enabled requests, whatever CCPN is; priority number 0 where there is none.
+#[cold]
+fn foremost(requests: &[u32; 16]) -> (u32, usize) {
+    let mut best = (0, 0);
+    for (source, word) in requests.iter().enumerate() {
+        let asks = word & (request::ENABLED | request::REQUESTED) == request::ENABLED | request::REQUESTED;
+        if asks && word & request::PRIORITY > best.0 {
+            best = (word & request::PRIORITY, source);
+        }
+    }
+    best
+}
+
+impl<'a, O: Observer> Machine<'a, O> {
+    pub fn new(core: Core, base: u32, window: &'a mut [u8], image: &'a [u8], observer: O) -> Self {
+        Machine { core, base, window, observer, code: Code::new(image), foremost: UNKNOWN }
+    }
+
+    #[inline(always)]
+    pub fn step(&mut self) -> Result<Event, Stop> {
+        self.observer.begins(&self.core);
+        let outcome = self.step_unobserved();
+        self.observer.ends(outcome);
+        outcome
+    }
+
+    #[inline(always)]
+    fn step_unobserved(&mut self) -> Result<Event, Stop> {
+        if self.core.icr & icr::IE != 0 && self.foremost.0 > self.core.icr & icr::CCPN {
+            self.foremost = foremost(&self.core.requests);
+            let (priority, source) = self.foremost;
+            if priority > self.core.icr & icr::CCPN {
+                let event = self.interrupt(source, priority)?;
+                self.foremost = UNKNOWN;
+                return Ok(event);
+            }
+        }
+        let pc = self.core.pc;
+        if let Err(trap) = self.core.permit(Access::Fetch, pc) {
+            return self.trap(trap, pc);
+        }
+        let Some(instruction) = self.code.fetch(pc) else {
+            return self.trap(PSE, pc);
+        };
+        self.observer.fetched(instruction.operation as u8);
+        match self.execute(instruction) {
+            Ok(event) => Ok(event),
+            Err(Undone::Stop(stop)) => Err(stop),
+            Err(Undone::Trap(trap)) => {
+                let goes_on = matches!(instruction.operation, Syscall | Trapv | Trapsv);
+                self.trap(trap, if goes_on { pc.wrapping_add(4) } else { pc })
+            }
+        }
+    }
+
+    /// Steps made, and how the last one tried ended.
+    pub fn run(&mut self, n: u32) -> (u32, Result<Event, Stop>) {
+        let mut last = Event::Instruction;
+        for made in 0..n {
+            match self.step() {
+                Ok(event) => last = event,
+                Err(stop) => return (made, Err(stop)),
+            }
+        }
+        (n, Ok(last))
+    }
+}
+
+fn word_of(outcome: Result<Event, Stop>) -> u64 {
+    outcome.map_or_else(answer::stop, answer::event)
+}
+
+pub fn start(record: &[u8], base: u32, window: &[u8], image: &[u8]) -> u64 {
+    let Ok(record) = record.try_into() else {
+        return answer::WRONG_LENGTH;
+    };
+    let core = Core::from_record(record);
+    match checks::start(base, window, image, core.pc, core.fcx, core.pcxi) {
+        Ok(()) => answer::ACCEPTED,
+        Err(refusal) => answer::refused(refusal),
+    }
+}
+
+/// Steps with a watcher: the answer of `work` on the machine, where the inputs are accepted.
+fn attempt<O: Observer>(
+    record: &mut [u8],
+    base: u32,
+    window: &mut [u8],
+    image: &[u8],
+    observer: O,
+    work: impl FnOnce(&mut Machine<O>) -> u64,
+) -> u64 {
+    let Ok(record): Result<&mut [u8; RECORD], _> = record.try_into() else {
+        return answer::WRONG_LENGTH;
+    };
+    if let Err(refusal) = checks::step(base, window, image, Core::pc_of(record)) {
+        return answer::refused(refusal);
+    }
+    let mut machine = Machine::new(Core::from_record(record), base, window, image, observer);
+    let answer = work(&mut machine);
+    machine.core.update_record(record);
+    answer
+}
+
+pub fn step_observed(record: &mut [u8], base: u32, window: &mut [u8], image: &[u8], observer: impl Observer) -> u64 {
+    attempt(record, base, window, image, observer, |machine| word_of(machine.step()))
+}
+
+pub fn run_observed(
+    record: &mut [u8],
+    base: u32,
+    window: &mut [u8],
+    image: &[u8],
+    n: u32,
+    observer: impl Observer,
+) -> u64 {
+    attempt(record, base, window, image, observer, |machine| {
+        let (made, outcome) = machine.run(n);
+        word_of(outcome) | (made as u64) << 32
+    })
+}
+
+pub fn step(record: &mut [u8], base: u32, window: &mut [u8], image: &[u8]) -> u64 {
+    step_observed(record, base, window, image, ())
+}
+
+pub fn run(record: &mut [u8], base: u32, window: &mut [u8], image: &[u8], n: u32) -> u64 {
+    run_observed(record, base, window, image, n, ())
+}

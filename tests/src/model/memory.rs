@@ -1,0 +1,68 @@
+//! Loads and stores.
+
+use super::code::Instruction;
+use super::event::{Trap, ALN, DSE};
+use super::machine::Machine;
+use super::observer::Observer;
+use super::protection::Access;
+
+impl<O: Observer> Machine<'_, O> {
+    /// Where the bytes of an access lie in the window. `pointer` is A[c] for LD.A: its guard comes before the alignment.
+    #[inline(always)]
+    fn reach(
+        &self,
+        i: Instruction,
+        access: Access,
+        size: usize,
+        align: u32,
+        pointer: Option<usize>,
+    ) -> Result<usize, Trap> {
+        let address = self.core.a[i.a].wrapping_add(i.immediate);
+        self.core.permit(access, address)?;
+        if let Some(n) = pointer {
+            self.core.guard(n)?;
+        }
+        if !address.is_multiple_of(align) {
+            return Err(ALN);
+        }
+        let offset = address.wrapping_sub(self.base) as usize;
+        if offset + size > self.window.len() {
+            return Err(DSE);
+        }
+        Ok(offset)
+    }
+
+    #[inline(always)]
+    fn read<const N: usize>(&self, i: Instruction, align: u32, pointer: Option<usize>) -> Result<[u8; N], Trap> {
+        let at = self.reach(i, Access::Read, N, align, pointer)?;
+        Ok(self.window[at..at + N].try_into().unwrap())
+    }
+
+    #[inline(always)]
+    pub fn load_byte(&self, i: Instruction) -> Result<u8, Trap> {
+        Ok(u8::from_le_bytes(self.read(i, 1, None)?))
+    }
+
+    #[inline(always)]
+    pub fn load_half(&self, i: Instruction) -> Result<u16, Trap> {
+        Ok(u16::from_le_bytes(self.read(i, 2, None)?))
+    }
+
+    #[inline(always)]
+    pub fn load_word(&self, i: Instruction) -> Result<u32, Trap> {
+        Ok(u32::from_le_bytes(self.read(i, 2, None)?))
+    }
+
+    #[inline(always)]
+    pub fn load_pointer(&self, i: Instruction) -> Result<u32, Trap> {
+        Ok(u32::from_le_bytes(self.read(i, 4, Some(i.c))?))
+    }
+
+    #[inline(always)]
+    pub fn store<const N: usize>(&mut self, i: Instruction, bytes: [u8; N], align: u32) -> Result<(), Trap> {
+        let at = self.reach(i, Access::Write, N, align, None)?;
+        self.window[at..at + N].copy_from_slice(&bytes);
+        self.observer.stored(at, N);
+        Ok(())
+    }
+}
