@@ -10,15 +10,15 @@ returns c = rw (c .enum-told .given .1)
 
 returns-2 : tie.Need-returns-2
 unfolding finishOf
-returns-2 c = rw (c .before .before .before .before .before .before .before .enum-told2 .given .1) (c .before .before .enter-fcd .ensures)
+returns-2 c = rw (c .before .before .before .before .before .before .before .before .enum-told2 .given .1, c .passed-on .ensures) (c .before .before .before .enter-fcd .ensures)
 
 returns-3 : tie.Need-returns-3
 unfolding finishOf
-returns-3 c = rw (c .before .before .before .before .before .before .before .before .before .how .given .1) (c .before .before .trap .ensures)
+returns-3 c = rw (c .before .before .before .before .before .before .before .before .before .before .how .given .1, c .passed-on2 .ensures) (c .before .before .before .trap .ensures)
 
 returns-4 : tie.Need-returns-4
 unfolding finishOf
-returns-4 c = rw (c .before .before .before .before .before .before .before .before .how2 .given .1) (c .before .before .trap2 .ensures)
+returns-4 c = rw (c .before .before .before .before .before .before .before .before .before .how2 .given .1, c .passed-on3 .ensures) (c .before .before .before .trap2 .ensures)
 
 returns-5 : tie.Need-returns-5
 unfolding finishOf
@@ -31,10 +31,13 @@ finish-spec =
     (λ c. search needs)
     (λ c. search needs)
     (λ c κs. search needs)
+    (λ c κs. search needs)
     (λ c. search needs)
     (λ c. search needs)
     (λ c κs. search needs)
+    (λ c κs. search needs)
     (λ c. search needs)
+    (λ c κs. search needs)
     (λ c κs. search needs)
     (λ c. search needs)
     returns
