@@ -31,7 +31,7 @@ extern "C" {
     ) -> u64;
 }
 
-/// The bits of an answer that are the same in every build: which of several permitting ranges is named is free.
+/// The bits of an answer that the second model gives too. The others name permitting ranges, which are free.
 pub const COMPARED: u64 = 0xFFFF_FFFF_00FF_FFFF;
 
 pub fn start(core: &[u8], base: u32, window: &[u8], image: &[u8]) -> u64 {

@@ -7,7 +7,7 @@ use deqbaryn_tests::model::core::{Core, RECORD};
 use deqbaryn_tests::model::machine;
 use deqbaryn_tests::report::{difference, place};
 use deqbaryn_tests::watch::Watcher;
-use deqbaryn_tests::{host, model::event::answer};
+use deqbaryn_tests::{host, model::event::answer, permits};
 
 const LEAST_SERIES: u64 = 500;
 const LEAST_RETURNS: u64 = 2_000;
@@ -36,6 +36,14 @@ fn model_call(side: &mut Side, base: u32, image: &[u8], kind: Kind, watcher: &mu
     match kind {
         Kind::Step => machine::step_observed(&mut side.core, base, &mut side.window, image, watcher),
         Kind::Run(n) => machine::run_observed(&mut side.core, base, &mut side.window, image, n, watcher),
+    }
+}
+
+/// Whether the permitting ranges in an answer have their properties. A run, a refusal and a record of a wrong length name none.
+fn permitted(core: &[u8], image: &[u8], kind: Kind, answer: u64) -> bool {
+    match (kind, core.try_into(), answer as u8) {
+        (Kind::Step, Ok(record), 0..=3) => permits::hold(&Core::from_record(record), image, answer),
+        _ => answer & !host::COMPARED == 0,
     }
 }
 
@@ -102,7 +110,12 @@ fn walk(seed: u64, watcher: &mut Watcher) {
         let whole = side.core.clone();
         side.core.resize(call.length, 0xA5);
         let (before, mut proved) = (side.clone(), side.clone());
-        let p = proved_call(&mut proved, base, image, call.kind) & host::COMPARED;
+        let answer = proved_call(&mut proved, base, image, call.kind);
+        assert!(
+            permitted(&before.core, image, call.kind, answer),
+            "DEQBARYN_SEED={seed}: call {k}: ranges {answer:016X}"
+        );
+        let p = answer & host::COMPARED;
         let m = model_call(&mut side, base, image, call.kind, watcher);
         if p != m || proved != side {
             let text = difference(base, (p, &proved.core, &proved.window), (m, &side.core, &side.window));
