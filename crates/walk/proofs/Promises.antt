@@ -2,7 +2,7 @@
 -- Assumes nothing.
 use Prim.Native.Nat.{ℕ, _-_, _^_, _≤_, _<_}
 use native.Mathlib.Omega.{arith}
-use mathlib.Core.Path.{_≡_, refl, sym, ap, _∙_}
+use mathlib.Core.Path.{_≡_, refl, sym, _∙_}
 use mathlib.Core.Bool.{true, false}
 use mathlib.Core.List.{List, append-nil, _++_}
 use lib.ListN.{length, take, replicate}
@@ -12,7 +12,7 @@ use denote.Laws.{Is}
 use denote.Plain.{UInt}
 use denote.Array.{Array}
 use borrow.Author.Tests.{lt-ltb, le-ltb}
-use Rattle.memory.specs.Memory.{Memory, memory}
+use Rattle.memory.specs.Memory.{memory}
 use Rattle.registers.specs.Registers.{pc, fcx, pcxi}
 use Rattle.registers.specs.declared.Registers.{Registers}
 use Rattle.inputs.specs.Checks.{andThen, stepVerdict, startVerdict}
@@ -39,18 +39,18 @@ unfolding restOf
 rest-due img w e = rw e
 
 -- of a walk that is over nothing is left
-pub block-last : (due img : List ℕ) (w : Walk) (out : List ℕ) → w .over ≡ true → w .len ≤ 65536 → take (w .len) out ≡ due → Block due img w out
+pub block-last : (due img : List ℕ) (w : Walk) (out : List ℕ) → w .over ≡ true → w .len ≤ length out → take (w .len) out ≡ due → Block due img w out
 unfolding restOf
 block-last due img w out e l t = record { bytes = rw (e, append-nil) t; fits = l; ready = λ f. absurd (never (sym e ∙ f)) }
 
-pub next-last : (img : List ℕ) (v w : Walk) (out : List ℕ) → v .over ≡ false → w .over ≡ true → w .len ≤ 65536 → take (w .len) out ≡ dueOf img v → Block (restOf img v) img w out × Onward v w
+pub next-last : (img : List ℕ) (v w : Walk) (out : List ℕ) → v .over ≡ false → w .over ≡ true → w .len ≤ length out → take (w .len) out ≡ dueOf img v → Block (restOf img v) img w out × Onward v w
 next-last img v w out f e l t = (block-last (restOf img v) img w out e l (t ∙ sym (rest-due img v f)), record { more = λ g. absurd (never (sym e ∙ g)); most = λ g. absurd (never (sym e ∙ g)) })
 
 -- of one that is not, what the steps print
-pub block-more : (due img : List ℕ) (w : Walk) (out : List ℕ) → w .over ≡ false → w .len ≤ 65536 → take (w .len) out ++ dueOf img w ≡ due → Ready img (w .registers) (memory 0xD000_0000 (w .window)) → Block due img w out
+pub block-more : (due img : List ℕ) (w : Walk) (out : List ℕ) → w .over ≡ false → w .len ≤ length out → take (w .len) out ++ dueOf img w ≡ due → Ready img (w .registers) (memory 0xD000_0000 (w .window)) → Block due img w out
 block-more due img w out e l t y = record { bytes = rw (rest-due img w e) t; fits = l; ready = λ f. y }
 
-pub next-more : (img : List ℕ) (v w : Walk) (out : List ℕ) → v .over ≡ false → w .over ≡ false → w .len ≤ 65536 → take (w .len) out ++ dueOf img w ≡ dueOf img v → Ready img (w .registers) (memory 0xD000_0000 (w .window))
+pub next-more : (img : List ℕ) (v w : Walk) (out : List ℕ) → v .over ≡ false → w .over ≡ false → w .len ≤ length out → take (w .len) out ++ dueOf img w ≡ dueOf img v → Ready img (w .registers) (memory 0xD000_0000 (w .window))
     → v .made < w .made → w .made ≤ 100000 → Block (restOf img v) img w out × Onward v w
 next-more img v w out f e l t y h k = (block-more (restOf img v) img w out e l (t ∙ sym (rest-due img v f)) y, record { more = λ g. h; most = λ g. k })
 

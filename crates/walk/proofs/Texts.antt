@@ -6,7 +6,7 @@ use native.Mathlib.Nat.{add-zero}
 use mathlib.Core.Path.{_≡_, refl, sym, ap, _∙_}
 use mathlib.Core.List.{List, [], _∷_, _++_, append-assoc, append-nil}
 use lib.ListN.{length, take, getD, set, length-set}
-use lib.Seq.{take-suc, take-suc-set, take-length, take-all}
+use lib.Seq.{take-suc, take-suc-set, take-all}
 use Rattle.text.specs.Hex.{hexOf}
 use Rattle.walk.specs.Written.{Written}
 
@@ -30,20 +30,20 @@ copied-more out₀ at s out i h l k =
       bytes = rw (e, f, take-suc-set out (at + i) (getD s i 0) (omega (arith, k .size)), take-suc s i 0 l, k .bytes) (append-assoc (take at out₀) (take i s) (getD s i 0 ∷ []));
     }
 
-pub copied-all : (out₀ : List ℕ) (at : ℕ) (s out : List ℕ) (i : ℕ) → length s ≤ i → Copied out₀ at s out i → Written out₀ at s (length s) out (at + i)
-copied-all out₀ at s out i h k =
-    record { bytes = k .bytes ∙ ap (λ (t : List ℕ). take at out₀ ++ t) (take-all i s h); size = k .size; room = omega (arith, k .upto) }
+pub copied-all : (out₀ : List ℕ) (at : ℕ) (s out : List ℕ) (i : ℕ) → at + length s ≤ length out₀ → length s ≤ i → Copied out₀ at s out i → Written out₀ at s (length s) out (at + i)
+copied-all out₀ at s out i g h k =
+    record { bytes = k .bytes ∙ ap (λ (t : List ℕ). take at out₀ ++ t) (take-all i s h); size = k .size; room = omega (arith, k .upto); fits = omega (arith, g, k .size, k .upto) }
 
 -- ---- a text after another
 pub then : {a b c x y : List ℕ} {i j k m n : ℕ} → Written a i x m b j → Written b j y n c k → Written a i (x ++ y) (m + n) c k
 then {a} {b} {c} {x} {y} {i} p q =
-    record { bytes = q .bytes ∙ ap (λ (t : List ℕ). t ++ y) (p .bytes) ∙ append-assoc (take i a) x y; size = q .size ∙ p .size; room = omega (arith, p .room, q .room) }
+    record { bytes = q .bytes ∙ ap (λ (t : List ℕ). t ++ y) (p .bytes) ∙ append-assoc (take i a) x y; size = q .size ∙ p .size; room = omega (arith, p .room, q .room); fits = q .fits }
 
-pub nothing : (a : List ℕ) (i : ℕ) → Written a i [] 1 a i
-nothing a i = record { bytes = sym (append-nil (take i a)); size = refl; room = omega arith }
+pub nothing : (a : List ℕ) (i : ℕ) → i ≤ length a → Written a i [] 1 a i
+nothing a i h = record { bytes = sym (append-nil (take i a)); size = refl; room = omega arith; fits = h }
 
 pub roomier : {a b x : List ℕ} {i j m n : ℕ} → m ≤ n → Written a i x m b j → Written a i x n b j
-roomier h p = record { bytes = p .bytes; size = p .size; room = omega (arith, p .room) }
+roomier h p = record { bytes = p .bytes; size = p .size; room = omega (arith, p .room); fits = p .fits }
 
 pub hex-length : (w : ℕ) → length (hexOf w) ≡ 8
 unfolding hexOf

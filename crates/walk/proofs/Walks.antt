@@ -4,7 +4,7 @@ use Prim.Native.Nat.{ℕ, suc, _+_, _-_, _*_, _≤_, _<_}
 use native.Mathlib.Omega.{arith}
 use mathlib.Core.Path.{_≡_, refl, sym, ap, _∙_}
 use mathlib.Core.Bool.{true, false}
-use mathlib.Core.List.{List, [], _++_, append-assoc, append-nil}
+use mathlib.Core.List.{List, _++_, append-assoc}
 use lib.ListN.{length, take}
 use Rattle.memory.specs.Memory.{Memory, memory}
 use Rattle.registers.specs.Registers.{pc, fcx, pcxi}
@@ -53,10 +53,11 @@ module _ (img : List ℕ) (made₀ : ℕ) (r₀ : Registers) (xs₀ w₀ : List 
     pub since : made₀ ≤ made
     pub filled : at ≤ 41 * (made - made₀)
     pub bound : at ≤ 65449
+    pub fits : at ≤ length out
     pub text : take at out ++ walkFrom (100000 - made) img made r xs (window w) ≡ due
 
   pub turn-start : (out : List ℕ) → Ready img r₀ (window w₀) → length w₀ ≡ 4096 → Turn out made₀ r₀ xs₀ w₀ 0
-  turn-start out y s = record { ready = y; size = s; since = omega arith; filled = omega arith; bound = omega arith; text = refl }
+  turn-start out y s = record { ready = y; size = s; since = omega arith; filled = omega arith; bound = omega arith; fits = omega arith; text = refl }
 
   module _ {out : List ℕ} {made : ℕ} {r : Registers} {xs w : List ℕ} {at : ℕ} (t : Turn out made r xs w at) where
     pub ended : {out′ : List ℕ} {most at′ : ℕ} → 100000 ≤ made → Written out at (endOf made) most out′ at′ → take at′ out′ ≡ due
@@ -79,6 +80,7 @@ module _ (img : List ℕ) (made₀ : ℕ) (r₀ : Registers) (xs₀ w₀ : List 
               since = omega (arith, t .since);
               filled = omega (arith, t .since, t .filled, k .room);
               bound = omega (arith, k .room);
+              fits = k .fits;
               text = goes-on _ _ (t .text) (next ∙ rw (made-it, f)) k;
             }
 

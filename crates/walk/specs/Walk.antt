@@ -13,7 +13,7 @@ use Rattle.events.specs.declared.event.Event.the-variants.{Instruction, Interru
 use Rattle.inputs.specs.Checks.{startVerdict}
 use Rattle.inputs.specs.declared.verdict.Verdict.{Verdict}
 use Rattle.inputs.specs.declared.verdict.Verdict.the-variants as verdict
-use Rattle.machine.specs.Step.{StepOf, stepOf}
+use Rattle.machine.specs.Step.{stepOf}
 use Rattle.machine.specs.Inner.{Ready}
 use Rattle.machine.specs.declared.answer.Outcome.{Outcome}
 use Rattle.machine.specs.declared.answer.Outcome.the-variants.{Made, Stopped, Refused}
@@ -58,7 +58,7 @@ restOf img w =
 -- a block: its bytes, followed by those still to be printed, are those that were due; and a walk that is not over can be gone on with
 pub record Block (due img : List ℕ) (w : Walk) (out : List ℕ) : Type 0 where
   pub bytes : take (w .len) out ++ restOf img w ≡ due
-  pub fits : w .len ≤ 65536
+  pub fits : w .len ≤ length out
   pub ready : w .over ≡ false → Ready img (w .registers) (memory 0xD000_0000 (w .window))
 
 -- each block makes a step or is the last one, so that the blocks end

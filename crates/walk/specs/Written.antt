@@ -9,3 +9,4 @@ pub record Written (before : List ℕ) (at : ℕ) (text : List ℕ) (most : ℕ)
   pub bytes : take end after ≡ take at before ++ text
   pub size : length after ≡ length before
   pub room : end ≤ at + most
+  pub fits : end ≤ length after

@@ -1,5 +1,5 @@
 // The pool walk of document 01: its start, its lines and its blocks of output.
 
 pub mod blocks;
-pub mod lines;
+mod lines;
 pub mod start;

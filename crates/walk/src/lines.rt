@@ -13,6 +13,7 @@ ghost use lib.ListN.{length};
 ghost use Rattle.walk.specs.Text.{headerText, nameOf, fieldOf, lineOf, digitOf, decimalOf, stopOf, endOf, refusedOf, longText};
 ghost use Rattle.walk.specs.Written.{Written};
 
+// A text as it stands.
 fn put(out: &mut [u8], at: usize, s: &[u8]) -> usize
     requires { ⌜ at + length (now s) ≤ length (now out) ⌝ }
     ensures { λ r. ⌜ Written (now (out .entry)) at (now (s .entry)) (length (now (s .entry))) (now (out .exit)) r ⌝ }

@@ -8,6 +8,7 @@ use registers::Registers;
 ghost use mathlib.Core.Path.{_≡_};
 ghost use Rattle.walk.specs.Start.{linkAfter, startBytes, firstAddress, startRegisters, noRanges};
 
+// The address of the window.
 pub const BASE: Address = Address(0xD000_0000);
 
 // The link in area k's first word.
@@ -20,6 +21,7 @@ fn link_after(k: usize) -> u32
     0
 }
 
+// The window: 64 areas linked ascending, all else 0.
 pub fn start_window() -> [u8; 4096]
     ensures { λ r. ⌜ r ≡ startBytes ⌝ }
 {
@@ -42,6 +44,7 @@ pub fn first_address(image: &[u8]) -> u32
     word_at(image, 4)
 }
 
+// The registers: PC, PSW, FCX and BTV as document 01 gives them, the rest 0.
 pub fn start_registers(image: &[u8]) -> Registers
     ensures { λ r. ⌜ r ≡ startRegisters (now (image .entry)) ⌝ }
 {
@@ -53,6 +56,7 @@ pub fn start_registers(image: &[u8]) -> Registers
     }
 }
 
+// The protection ranges, all 0.
 pub fn no_ranges() -> [Range; 32]
     ensures { λ r. ⌜ r ≡ noRanges ⌝ }
 {

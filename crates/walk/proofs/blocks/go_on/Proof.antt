@@ -20,7 +20,7 @@ loop-holds c = turn-start _ _ _ _ _ _ (c .before .before .before .before .before
 returns : tie.Need-returns Inv-loop μ-loop
 returns c =
     let t = c .before .before .loop .inv in
-    next-more _ _ _ _ (c .before .before .before .before .before .before .before .before .pre .1) refl (omega (arith, t .bound)) (t .text) (t .ready) (omega (arith, c .if1 .taken, t .filled)) (omega (arith, c .before .loop-test .taken))
+    next-more _ _ _ _ (c .before .before .before .before .before .before .before .before .pre .1) refl (t .fits) (t .text) (t .ready) (omega (arith, c .if1 .taken, t .filled)) (omega (arith, c .before .loop-test .taken))
 
 element-copy-out-pc : tie.Need-element-copy-out-pc Inv-loop μ-loop
 element-copy-out-pc c = omega (arith, c .before .before .loop .inv .ready .valid .core .size)
@@ -44,7 +44,7 @@ put-end-requires : tie.Need-put-end-requires Inv-loop μ-loop
 put-end-requires c κs = omega (arith, c .before .before .before .before .before .before .before .before .before .before .before .before .before .before .before .before .before .if1 .left, c .before .before .before .put-line .ensures .room, c .before .before .before .put-line .ensures .size)
 
 returns-2 : tie.Need-returns-2 Inv-loop μ-loop
-returns-2 c = next-last _ _ _ _ (c .before .before .before .before .before .before .before .before .before .before .before .before .before .before .before .before .before .before .before .before .before .before .before .before .before .before .pre .1) refl (omega (arith, c .before .before .before .before .before .before .before .before .before .before .before .before .before .before .before .before .before .before .if1 .left, c .before .before .before .before .put-line .ensures .room, c .put-end .ensures .room)) (trapped _ _ _ _ _ (c .before .before .before .before .before .before .before .before .before .before .before .before .before .before .before .before .before .before .before .before .loop .inv) (c .before .before .before .before .before .before .before .before .before .before .before .before .before .before .before .before .before .before .before .loop-test .taken) (c .before .before .before .before .before .before .before .before .before .before .before .before .before .before .before .before .before .before .before .before .before .before .before .before .no-ranges .ensures) (c .before .before .before .before .before .before .before .before .before .before .before .before .before .before .before .step-accepted .ensures .0) (c .before .before .before .before .before .before .before .before .before .before .outcome .given .1) (c .before .before .before .before .put-line .ensures) (sym (c .before .before .before .is-trap .ensures) ∙ c .before .before .if2 .taken) (c .put-end .ensures))
+returns-2 c = next-last _ _ _ _ (c .before .before .before .before .before .before .before .before .before .before .before .before .before .before .before .before .before .before .before .before .before .before .before .before .before .before .pre .1) refl (c .put-end .ensures .fits) (trapped _ _ _ _ _ (c .before .before .before .before .before .before .before .before .before .before .before .before .before .before .before .before .before .before .before .before .loop .inv) (c .before .before .before .before .before .before .before .before .before .before .before .before .before .before .before .before .before .before .before .loop-test .taken) (c .before .before .before .before .before .before .before .before .before .before .before .before .before .before .before .before .before .before .before .before .before .before .before .before .no-ranges .ensures) (c .before .before .before .before .before .before .before .before .before .before .before .before .before .before .before .step-accepted .ensures .0) (c .before .before .before .before .before .before .before .before .before .before .outcome .given .1) (c .before .before .before .before .put-line .ensures) (sym (c .before .before .before .is-trap .ensures) ∙ c .before .before .if2 .taken) (c .put-end .ensures))
 
 loop-less : tie.Need-loop-less Inv-loop μ-loop
 loop-less c = omega (arith, c .before .before .before .before .before .before .before .before .before .before .before .before .before .before .before .before .before .loop-test .taken)
@@ -59,16 +59,16 @@ put-end-requires-2 : tie.Need-put-end-requires-2 Inv-loop μ-loop
 put-end-requires-2 c κs = omega (arith, c .before .before .before .before .before .before .before .before .before .before .before .before .if1 .left, c .before .put-stop .ensures .room, c .before .put-stop .ensures .size)
 
 returns-3 : tie.Need-returns-3 Inv-loop μ-loop
-returns-3 c = next-last _ _ _ _ (c .before .before .before .before .before .before .before .before .before .before .before .before .before .before .before .before .before .before .before .before .before .pre .1) refl (omega (arith, c .before .before .before .before .before .before .before .before .before .before .before .before .before .if1 .left, c .before .before .put-stop .ensures .room, c .put-end2 .ensures .room)) (stopped _ _ _ _ _ (c .before .before .before .before .before .before .before .before .before .before .before .before .before .before .before .loop .inv) (c .before .before .before .before .before .before .before .before .before .before .before .before .before .before .loop-test .taken) (c .before .before .before .before .before .before .before .before .before .before .before .before .before .before .before .before .before .before .before .no-ranges .ensures) (c .before .before .before .before .before .before .before .before .before .before .step-accepted .ensures .0) (c .before .before .before .before .before .outcome2 .given .1) (c .before .before .put-stop .ensures) (c .put-end2 .ensures))
+returns-3 c = next-last _ _ _ _ (c .before .before .before .before .before .before .before .before .before .before .before .before .before .before .before .before .before .before .before .before .before .pre .1) refl (c .put-end2 .ensures .fits) (stopped _ _ _ _ _ (c .before .before .before .before .before .before .before .before .before .before .before .before .before .before .before .loop .inv) (c .before .before .before .before .before .before .before .before .before .before .before .before .before .before .loop-test .taken) (c .before .before .before .before .before .before .before .before .before .before .before .before .before .before .before .before .before .before .before .no-ranges .ensures) (c .before .before .before .before .before .before .before .before .before .before .step-accepted .ensures .0) (c .before .before .before .before .before .outcome2 .given .1) (c .before .before .put-stop .ensures) (c .put-end2 .ensures))
 
 put-refused-requires : tie.Need-put-refused-requires Inv-loop μ-loop
 put-refused-requires c κs = omega (arith, c .before .before .before .before .before .before .before .before .before .before .if1 .left)
 
 returns-4 : tie.Need-returns-4 Inv-loop μ-loop
-returns-4 c = next-last _ _ _ _ (c .before .before .before .before .before .before .before .before .before .before .before .before .before .before .before .before .before .before .before .pre .1) refl (omega (arith, c .before .before .before .before .before .before .before .before .before .before .before .if1 .left, c .put-refused .ensures .room)) (refused _ _ _ _ _ (c .before .before .before .before .before .before .before .before .before .before .before .before .before .loop .inv) (c .before .before .before .before .before .before .before .before .before .before .before .before .loop-test .taken) (c .before .before .before .before .before .before .before .before .before .before .before .before .before .before .before .before .before .no-ranges .ensures) (c .before .before .before .before .before .before .before .before .step-accepted .ensures .0) (c .before .before .before .outcome3 .given .1) (c .put-refused .ensures))
+returns-4 c = next-last _ _ _ _ (c .before .before .before .before .before .before .before .before .before .before .before .before .before .before .before .before .before .before .before .pre .1) refl (c .put-refused .ensures .fits) (refused _ _ _ _ _ (c .before .before .before .before .before .before .before .before .before .before .before .before .before .loop .inv) (c .before .before .before .before .before .before .before .before .before .before .before .before .loop-test .taken) (c .before .before .before .before .before .before .before .before .before .before .before .before .before .before .before .before .before .no-ranges .ensures) (c .before .before .before .before .before .before .before .before .step-accepted .ensures .0) (c .before .before .before .outcome3 .given .1) (c .put-refused .ensures))
 
 returns-5 : tie.Need-returns-5 Inv-loop μ-loop
-returns-5 c = next-last _ _ _ _ (c .before .before .before .before .before .before .before .before .before .pre .1) refl (omega (arith, c .before .before .before .loop .inv .bound, c .put-end3 .ensures .room)) (ended _ _ _ _ _ (c .before .before .before .loop .inv) (c .before .before .loop-test .left) (c .put-end3 .ensures))
+returns-5 c = next-last _ _ _ _ (c .before .before .before .before .before .before .before .before .before .pre .1) refl (c .put-end3 .ensures .fits) (ended _ _ _ _ _ (c .before .before .before .loop .inv) (c .before .before .loop-test .left) (c .put-end3 .ensures))
 
 pub go-on-spec : {M : Type 1} → statement M
 go-on-spec =

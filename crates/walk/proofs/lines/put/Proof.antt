@@ -16,7 +16,7 @@ loop-again : tie.Need-loop-again Inv-loop μ-loop
 loop-again c = copied-more _ _ _ _ _ (c .before .before .before .pre) (c .before .loop-test .taken) (c .before .before .loop .inv)
 
 returns : tie.Need-returns Inv-loop μ-loop
-returns c = copied-all _ _ _ _ _ (c .loop-test .left) (c .before .loop .inv)
+returns c = copied-all _ _ _ _ _ (c .before .before .pre) (c .loop-test .left) (c .before .loop .inv)
 
 pub put-spec : {M : Type 1} → statement M
 put-spec =

@@ -3,12 +3,13 @@ use borrow.Author.Needs.{needs}
 use borrow.Author.Tests.{lt-leb, le-leb}
 use Rattle.walk.proofs.Texts.{nothing}
 use Rattle.walk.specs.Text.{digitOf}
+use native.Mathlib.Omega.{arith}
 use Rattle.walk.proofs.lines.put_digit.Statement.{statement}
 use Rattle.walk.proofs.lines.put_digit.Tie as tie
 
 returns : tie.Need-returns
 unfolding digitOf
-returns c = rw (lt-leb _ _ (c .if1 .taken)) (nothing _ _)
+returns c = rw (lt-leb _ _ (c .if1 .taken)) (nothing _ _ (omega arith))
 
 returns-2 : tie.Need-returns-2
 unfolding digitOf

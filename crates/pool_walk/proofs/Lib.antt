@@ -1,0 +1,2 @@
+-- The blocks end.
+pub mod Ends
