@@ -1,0 +1,71 @@
+-- The series, by computation.
+-- Assumes nothing.
+use mathlib.Core.Path.{_≡_, refl}
+use mathlib.Core.List.{_++_}
+use Rattle.words.specs.Bits.{bit}
+use Rattle.fields.specs.Field.{isSet}
+use Rattle.fields.specs.Depth.{counterBits, counts, overflowsUp, underflowsDown, nested, calledOf}
+use Rattle.fields.specs.Icr.{icrOf}
+use Rattle.fields.specs.Pcxi.{pcxiOf}
+use Rattle.fields.specs.Request.{requests, clearedOf}
+use Rattle.memory.specs.Word.{wordAt, wordsAt, putWord, putWords}
+use Rattle.registers.specs.Registers.{plusOf, pc, fcx, pcxi}
+use Rattle.areas.specs.Place.{placedAt}
+use Rattle.lists.specs.Walk.{walkOf, listsOf}
+use Rattle.contexts.specs.Context.{upperOf, lowerOf}
+use Rattle.contexts.specs.Save.{roomAt, takeOf, saveAtOf, saveOf}
+use Rattle.contexts.specs.Restore.{loadOf, returnOf}
+use Rattle.entries.specs.Entry.{stackOf, enteredOf, trapEntry, interruptEntry, interruptOf, trapOf, fcdOf}
+use Rattle.protection.specs.Range.{enables, permits, firstOf, anyFrom}
+use Rattle.protection.specs.Access.{checkOf}
+use Rattle.interrupts.specs.Sources.{betterOf, bestBelow, takes, clearedAt}
+use Rattle.operations.specs.Operations.{operationOf}
+use Rattle.image.specs.Table.{entryAt, entryHolds, entriesFrom, tableOf}
+use Rattle.image.specs.Records.{recordHolds, recordsFrom, imageOf}
+use Rattle.image.specs.Fetch.{instructionAt, fetchFrom, fetchOf}
+use Rattle.inputs.specs.Checks.{windowHolds, stepVerdict, startVerdict}
+use Rattle.inputs.specs.declared.verdict.Verdict.the-variants.{Accepted}
+use Rattle.accesses.specs.Store.{storeAtOf, storeOf}
+use Rattle.calls.specs.Saves.{calledThen, callOf, svlcxOf, bisrThen, bisrOf}
+use Rattle.calls.specs.Returns.{previousOf, retOf, rfeOf, rslcxOf}
+use Rattle.calls.specs.Instructions.{contextOp}
+use Rattle.execute.specs.Execute.{actOf, finishOf, executeOf}
+use Rattle.decisions.specs.Phases.{instructionOf, oneOf, requestsOf}
+use Rattle.decisions.specs.Decision.{decisionOf}
+use Rattle.machine.specs.Step.{stepOf}
+use Rattle.machine.specs.Run.{runFrom, runOf}
+use Rattle.series.specs.Calls.{afterAll, runArgs, allArgs}
+use Rattle.series.specs.Abstract.{upperRegisters, lowerRegisters, moved}
+use Rattle.series.specs.Conditions.{movedAt, movedAll}
+use Rattle.witness.specs.Start.{start}
+use Rattle.witness.specs.Series.{interrupted, saving, returning, calls}
+use Rattle.witness.specs.Lists.{begun, depleted, allFree, ended}
+use Rattle.witness.specs.Witness.{outcomes, happening, loaded}
+
+pub accepted : startVerdict (start .memory) (interrupted .bytes) (pc (start .registers)) (fcx (start .registers)) (pcxi (start .registers)) ≡ Accepted
+unfolding wordAt placedAt walkOf listsOf entryAt entryHolds entriesFrom tableOf recordHolds recordsFrom imageOf windowHolds stepVerdict startVerdict
+accepted = refl
+
+pub happened : outcomes (allArgs calls start) ≡ happening
+unfolding bit isSet counterBits counts overflowsUp underflowsDown nested calledOf icrOf pcxiOf requests clearedOf wordAt wordsAt putWord putWords plusOf placedAt upperOf lowerOf roomAt takeOf saveAtOf saveOf loadOf returnOf stackOf enteredOf trapEntry interruptEntry interruptOf trapOf fcdOf betterOf bestBelow takes clearedAt enables permits firstOf anyFrom checkOf operationOf entryAt entryHolds entriesFrom tableOf recordHolds recordsFrom imageOf instructionAt fetchFrom fetchOf windowHolds stepVerdict calledThen callOf svlcxOf bisrThen bisrOf previousOf retOf rfeOf rslcxOf contextOp storeAtOf storeOf actOf finishOf executeOf instructionOf oneOf requestsOf stepOf runFrom runOf runArgs
+happened = refl
+
+pub no-area-left : movedAll (allArgs saving start) begun ≡ depleted
+unfolding bit isSet counterBits counts overflowsUp underflowsDown nested calledOf icrOf pcxiOf requests clearedOf wordAt wordsAt putWord putWords plusOf placedAt upperOf lowerOf roomAt takeOf saveAtOf saveOf loadOf returnOf stackOf enteredOf trapEntry interruptEntry interruptOf trapOf fcdOf betterOf bestBelow takes clearedAt enables permits firstOf anyFrom checkOf operationOf entryAt entryHolds entriesFrom tableOf recordHolds recordsFrom imageOf instructionAt fetchFrom fetchOf windowHolds stepVerdict calledThen callOf svlcxOf bisrThen bisrOf previousOf retOf rfeOf rslcxOf contextOp storeAtOf storeOf actOf finishOf executeOf instructionOf oneOf requestsOf stepOf runFrom runOf runArgs decisionOf upperRegisters lowerRegisters moved movedAt
+no-area-left = refl
+
+pub no-area-used : movedAll (allArgs (saving ++ returning) start) begun ≡ allFree
+unfolding bit isSet counterBits counts overflowsUp underflowsDown nested calledOf icrOf pcxiOf requests clearedOf wordAt wordsAt putWord putWords plusOf placedAt upperOf lowerOf roomAt takeOf saveAtOf saveOf loadOf returnOf stackOf enteredOf trapEntry interruptEntry interruptOf trapOf fcdOf betterOf bestBelow takes clearedAt enables permits firstOf anyFrom checkOf operationOf entryAt entryHolds entriesFrom tableOf recordHolds recordsFrom imageOf instructionAt fetchFrom fetchOf windowHolds stepVerdict calledThen callOf svlcxOf bisrThen bisrOf previousOf retOf rfeOf rslcxOf contextOp storeAtOf storeOf actOf finishOf executeOf instructionOf oneOf requestsOf stepOf runFrom runOf runArgs decisionOf upperRegisters lowerRegisters moved movedAt
+no-area-used = refl
+
+pub after : movedAll (allArgs calls start) begun ≡ ended
+unfolding bit isSet counterBits counts overflowsUp underflowsDown nested calledOf icrOf pcxiOf requests clearedOf wordAt wordsAt putWord putWords plusOf placedAt upperOf lowerOf roomAt takeOf saveAtOf saveOf loadOf returnOf stackOf enteredOf trapEntry interruptEntry interruptOf trapOf fcdOf betterOf bestBelow takes clearedAt enables permits firstOf anyFrom checkOf operationOf entryAt entryHolds entriesFrom tableOf recordHolds recordsFrom imageOf instructionAt fetchFrom fetchOf windowHolds stepVerdict calledThen callOf svlcxOf bisrThen bisrOf previousOf retOf rfeOf rslcxOf contextOp storeAtOf storeOf actOf finishOf executeOf instructionOf oneOf requestsOf stepOf runFrom runOf runArgs decisionOf upperRegisters lowerRegisters moved movedAt
+after = refl
+
+pub restored : afterAll (saving ++ returning) start .registers ≡ loaded
+unfolding bit isSet counterBits counts overflowsUp underflowsDown nested calledOf icrOf pcxiOf requests clearedOf wordAt wordsAt putWord putWords plusOf placedAt upperOf lowerOf roomAt takeOf saveAtOf saveOf loadOf returnOf stackOf enteredOf trapEntry interruptEntry interruptOf trapOf fcdOf betterOf bestBelow takes clearedAt enables permits firstOf anyFrom checkOf operationOf entryAt entryHolds entriesFrom tableOf recordHolds recordsFrom imageOf instructionAt fetchFrom fetchOf windowHolds stepVerdict calledThen callOf svlcxOf bisrThen bisrOf previousOf retOf rfeOf rslcxOf contextOp storeAtOf storeOf actOf finishOf executeOf instructionOf oneOf requestsOf stepOf runFrom runOf runArgs
+restored = refl
+
+pub stored : wordAt (afterAll calls start .memory .bytes) 320 ≡ 1
+unfolding bit isSet counterBits counts overflowsUp underflowsDown nested calledOf icrOf pcxiOf requests clearedOf wordAt wordsAt putWord putWords plusOf placedAt upperOf lowerOf roomAt takeOf saveAtOf saveOf loadOf returnOf stackOf enteredOf trapEntry interruptEntry interruptOf trapOf fcdOf betterOf bestBelow takes clearedAt enables permits firstOf anyFrom checkOf operationOf entryAt entryHolds entriesFrom tableOf recordHolds recordsFrom imageOf instructionAt fetchFrom fetchOf windowHolds stepVerdict calledThen callOf svlcxOf bisrThen bisrOf previousOf retOf rfeOf rslcxOf contextOp storeAtOf storeOf actOf finishOf executeOf instructionOf oneOf requestsOf stepOf runFrom runOf runArgs
+stored = refl
