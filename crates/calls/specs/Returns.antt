@@ -1,4 +1,4 @@
--- RET, RFE and RSLCX (002, 4.3, 8.5 and chapter 9).
+-- RET, RFE and RSLCX (002, 4.3, 8.8.1, 8.9.5 and chapter 9).
 use Prim.Native.Nat.{ℕ}
 use mathlib.Core.Bool.{Bool, not, cond}
 use lib.Dec.{eqb}

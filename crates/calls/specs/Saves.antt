@@ -1,4 +1,4 @@
--- CALL and CALLI, SVLCX and BISR (002, 4.3, 8.5 and chapter 9).
+-- CALL and CALLI, SVLCX and BISR (002, 4.3, 8.6.1, 8.8.1 and chapter 9).
 use Prim.Native.Nat.{ℕ}
 use mathlib.Core.Bool.{true, cond}
 use Rattle.fields.specs.Psw.{isSupervisor}

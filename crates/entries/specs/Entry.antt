@@ -1,4 +1,4 @@
--- The entries of interrupts and traps (002, 5.4 and 6.2), and the FCD entry.
+-- The entries of interrupts and traps (002, 5.5 and 6.2), and the FCD entry.
 use Prim.Native.Nat.{ℕ, _*_}
 use mathlib.Core.Bool.{false, cond}
 use mathlib.Core.List.{List}

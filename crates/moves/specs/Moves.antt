@@ -1,4 +1,4 @@
--- Integer operations on the registers, and the moves and the arithmetic of address registers (002, 8.1, 8.3 and chapter 9).
+-- Integer operations on the registers, and the moves and the arithmetic of address registers (002, 8.1, 8.4 and chapter 9).
 use Prim.Native.Nat.{ℕ}
 use mathlib.Core.Bool.{cond}
 use Rattle.integer.specs.Integer.{computeOf}

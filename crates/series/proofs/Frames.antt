@@ -1,6 +1,6 @@
 -- Lists whose areas are as they were are linked as they were.
 -- Assumes nothing.
-use Prim.Native.Nat.{ℕ, _+_, _^_, _≤_, _<_}
+use Prim.Native.Nat.{ℕ, _+_, _%_, _^_, _≤_, _<_}
 use native.Mathlib.Omega.{arith}
 use mathlib.Core.Path.{_≡_, sym, ap, subst, _∙_}
 use mathlib.Core.List.{List, [], _∷_, _++_}
@@ -21,6 +21,10 @@ use Rattle.series.proofs.Areas.{first-same}
 -- a link of a word is a link
 pub link-below : {k : Link} (w : ℕ) → linkOf w ≡ k → k .0 < 2 ^ 20
 link-below {k} w e = subst (λ (l : Link). l .0 < 2 ^ 20) e (omega arith)
+
+-- and the link of a link is itself
+pub link-twice : (w : ℕ) → linkOf (linkOf w .0) ≡ linkOf w
+link-twice w = let e : w % 2 ^ 20 % 2 ^ 20 ≡ w % 2 ^ 20 = omega arith in ap (λ (x : ℕ). record { 0 = x }) e
 
 pub count-self : (k : Link) (ks : List Link) → 1 ≤ count k (k ∷ ks)
 count-self k ks = omega (arith, one-self k)

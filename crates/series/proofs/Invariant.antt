@@ -1,6 +1,6 @@
 -- The invariant of a series, and the two moves: a save and a return.
 -- Assumes nothing.
-use Prim.Native.Nat.{ℕ, _+_, _%_, _^_, _≤_, _<_}
+use Prim.Native.Nat.{ℕ, _+_, _^_, _≤_, _<_}
 use native.Mathlib.Omega.{arith}
 use mathlib.Core.Path.{_≡_, refl, sym, ap, subst, _∙_}
 use mathlib.Core.Logic.{_⊎_}
@@ -32,7 +32,7 @@ use Rattle.series.specs.Abstract.{named, held, SavedContext, context, Ab
 use Rattle.series.specs.Calls.{State, state}
 use Rattle.series.specs.Claim.{end, Stacked, Agree}
 use Rattle.series.proofs.Areas.{written-first, written-apart, held-written, linked-word, linked-apart}
-use Rattle.series.proofs.Frames.{link-below, Unchanged, leads-frame, stacked-frame, place-same}
+use Rattle.series.proofs.Frames.{link-below, link-twice, Unchanged, leads-frame, stacked-frame, place-same}
 
 -- L are the areas listed at the start
 pub record Inv (L : List Link) (s : State) (b : AbstractLists) : Type 0 where
@@ -122,9 +122,6 @@ module _ {L : List Link} {r : Registers} {m : Memory} where
           same = λ k. omega (arith, i .same k);
           once = i .once;
         }
-      where
-        link-twice : (w : ℕ) → linkOf (linkOf w .0) ≡ linkOf w
-        link-twice w = let e : w % 2 ^ 20 % 2 ^ 20 ≡ w % 2 ^ 20 = omega arith in ap (λ (x : ℕ). record { 0 = x }) e
 
   -- ---- a return
   module _ (c : SavedContext) (cs : List SavedContext) (fs : List Link) (i : Inv L (state r m) (lists fs (c ∷ cs))) (at : ℕ) (p : placeOf m (linkOf (pcxi r)) ≡ At at) where
@@ -148,9 +145,6 @@ module _ {L : List Link} {r : Registers} {m : Memory} where
         let o = others m (c .link) at (link-below (pcxi r) is-c) place-c k b (not-on (c .link) k ks z d) q f in
         linked-apart (m .bytes) at (fcx r) q (o .0) (o .1)
 
-    link-again : (w : ℕ) → linkOf (linkOf w .0) ≡ linkOf w
-    link-again w = let e : w % 2 ^ 20 % 2 ^ 20 ≡ w % 2 ^ 20 = omega arith in ap (λ (x : ℕ). record { 0 = x }) e
-
     -- the area holds the context that comes off
     pub return-held : held (c .half) (areaAt (m .bytes) at) ≡ c .registers
     return-held =
@@ -162,7 +156,7 @@ module _ {L : List Link} {r : Registers} {m : Memory} where
         let t = i .agree .saved in
         let same-at : t .3 ≡ at = same-place m (c .link) (t .3) at (t .4) place-c in
         let onward : Stacked m (wordAt (m .bytes) at) cs = subst (λ (a : ℕ). Stacked m (wordAt (m .bytes) a) cs) same-at (t .6) in
-        let is : linkOf (fcx q) ≡ c .link = ap (λ (w : ℕ). linkOf w) ef ∙ link-again (pcxi r) ∙ is-c in
+        let is : linkOf (fcx q) ≡ c .link = ap (λ (w : ℕ). linkOf w) ef ∙ link-twice (pcxi r) ∙ is-c in
         let back : wordAt (n′ .bytes) at ≡ fcx r = linked-word (m .bytes) at (fcx r) (omega (arith, inside′)) (i .valid .core .each 3) in
         record {
           valid = v;

@@ -41,7 +41,7 @@ use Rattle.decisions.proofs.Steps.{after-valid}
 use Rattle.series.specs.Abstract.{upperRegisters, named, SavedContext, context, AbstractLists, lists, SaveOf, saveOne, saveTwo}
 use Rattle.series.specs.Calls.{state}
 use Rattle.series.specs.Claim.{end}
-use Rattle.series.proofs.Frames.{place-same}
+use Rattle.series.proofs.Frames.{link-twice, place-same}
 use Rattle.series.proofs.Invariant.{Inv, save-inv}
 
 -- ---- the area for a save, from the free list
@@ -113,7 +113,7 @@ module _ (e : Event) (half : Half) (saved-pc : ℕ) (h : saved-pc < 2 ^ 32) (the
         let lies = room-at (m .base) (length (m .bytes)) (wordAt (m .bytes) at) second c .lies in
         let x = afterSave Upper second (n at .bytes) (q at) in
         let f : Then (trapEntry FCD (pc x)) = trap-then FCD (pc x) (small (omega arith) (omega arith)) (after-valid Upper second (n at .bytes) (q-valid at) .core .each 0) in
-        let again : linkOf (fcx (q at)) ≡ linkOf (wordAt (m .bytes) at) = ap (λ (y : ℕ). linkOf y) (q-fcx at) ∙ twice (wordAt (m .bytes) at) in
+        let again : linkOf (fcx (q at)) ≡ linkOf (wordAt (m .bytes) at) = ap (λ (y : ℕ). linkOf y) (q-fcx at) ∙ link-twice (wordAt (m .bytes) at) in
         let p : placeOf (n at) (linkOf (fcx (q at))) ≡ At second = ap (placeOf (n at)) again ∙ place-same m (n at) refl (putWords-length (m .bytes) at (contextOf half saved-pc r) 16) (linkOf (wordAt (m .bytes) at)) ∙ lies in
         let entry : named Upper (q at) ≡ pcxiOf (icr r) (ulOf half) (l .0) ∷ upperRegisters (then r) =
         ap (λ (y : ℕ). y ∷ upperRegisters (q at)) (q-pcxi at ∙ pcxi-by (icr r) (fcx r) (ulOf half) l (i .agree .free .0)) ∙ ap (λ (y : List ℕ). pcxiOf (icr r) (ulOf half) (l .0) ∷ y) (q-upper at) in
@@ -122,9 +122,6 @@ module _ (e : Event) (half : Half) (saved-pc : ℕ) (h : saved-pc < 2 ^ 32) (the
         (ap fcx (f .blind (q at) (q-valid at) _ _) ∙ head-fcx _ (f .valid (q at) (q-valid at)) _ _)
         (ap pcxi (f .blind (q at) (q-valid at) _ _) ∙ head-pcxi _ (f .valid (q at) (q-valid at)) _ _) in
         subst (λ (y : List ℕ). Inv L (state (trapEntry FCD (pc x) x) (memory (m .base) (putWords (n at .bytes) second (upperOf (q at)) 16))) (lists ks (context k Upper y ∷ context l half (named half r) ∷ cs))) entry z
-      where
-        twice : (y : ℕ) → linkOf (linkOf y .0) ≡ linkOf y
-        twice y = let g : y % 2 ^ 20 % 2 ^ 20 ≡ y % 2 ^ 20 = omega arith in ap (λ (v : ℕ). record { 0 = v }) g
 
     -- ---- the cases
     -- the next area's room is that of the next free link
