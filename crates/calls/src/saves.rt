@@ -1,11 +1,9 @@
 // CALL and CALLI, SVLCX and BISR.
 
 use acts::How;
-use contexts::context::Half;
-use contexts::context::lower;
-use contexts::context::upper;
 use contexts::save::Saved;
-use contexts::save::save;
+use contexts::save::save_lower;
+use contexts::save::save_upper;
 use events::trap::CDO;
 use events::trap::PRIV;
 use fields::depth::called;
@@ -44,8 +42,7 @@ pub fn call(
     if overflows(core[PSW]) {
         return How::Trap(CDO);
     }
-    let words = upper(d, a, core);
-    match save(base, window, core, Half::Upper, words) {
+    match save_upper(base, window, d, a, core) {
         Saved::Stops(s) => How::Stopped(s),
         Saved::Done => {
             set_called(d, a, core, to, next);
@@ -68,8 +65,7 @@ pub fn svlcx(
 ) -> How
     ensures { λ r. ⌜ did r (registers (now (d .exit)) (now (a .exit)) (now (core .exit))) (memory base (now (window .exit))) ≡ performOf (svlcxOf next) (registers (now (d .entry)) (now (a .entry)) (now (core .entry))) (memory base (now (window .entry))) ⌝ }
 {
-    let words = lower(d, a, core, next);
-    match save(base, window, core, Half::Lower, words) {
+    match save_lower(base, window, d, a, core, next) {
         Saved::Stops(s) => How::Stopped(s),
         Saved::Done => {
             core[PC] = next;
@@ -104,8 +100,7 @@ pub fn bisr(
     if !fields::psw::supervisor(core[PSW]) {
         return How::Trap(PRIV);
     }
-    let words = lower(d, a, core, next);
-    match save(base, window, core, Half::Lower, words) {
+    match save_lower(base, window, d, a, core, next) {
         Saved::Stops(s) => How::Stopped(s),
         Saved::Done => {
             set_priority(d, a, core, imm, next);

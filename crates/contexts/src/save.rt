@@ -1,7 +1,9 @@
 // A save: the area at FCX, its sixteen words, and the heads of the lists afterwards.
 
 use crate::context::Half;
+use crate::context::lower;
 use crate::context::ul;
+use crate::context::upper;
 use areas::area::next_link;
 use areas::area::write_area;
 use areas::link::Address;
@@ -18,6 +20,8 @@ ghost use mathlib.Core.Path.{_≡_};
 ghost use Prim.Native.Nat.{_+_, _≤_};
 ghost use lib.ListN.{length};
 ghost use Rattle.memory.specs.Memory.{memory};
+ghost use Rattle.registers.specs.Registers.{registers};
+ghost use Rattle.contexts.specs.Context.{upperOf, lowerOf};
 ghost use Rattle.contexts.specs.Save.{roomAt, taken, takeOf, saving, saveAtOf, saveOf};
 
 // The area for a save, or why there is none.
@@ -98,4 +102,33 @@ fn save_at(
     }
     take(window, core, at, half, words);
     Saved::Done
+}
+
+// A save of the upper context.
+pub fn save_upper(
+    base: u32,
+    window: &mut [u8],
+    d: &[u32; 16],
+    a: &[u32; 16],
+    core: &mut [u32; 10],
+) -> Saved
+    ensures { λ r. ⌜ saving r (now (core .exit)) (memory base (now (window .exit))) ≡ saveOf Half.Upper (upperOf (registers (now (d .entry)) (now (a .entry)) (now (core .entry)))) (now (core .entry)) (memory base (now (window .entry))) ⌝ }
+{
+    let words = upper(d, a, core);
+    save(base, window, core, Half::Upper, words)
+}
+
+// A save of the lower context, with the saved PC.
+pub fn save_lower(
+    base: u32,
+    window: &mut [u8],
+    d: &[u32; 16],
+    a: &[u32; 16],
+    core: &mut [u32; 10],
+    pc: u32,
+) -> Saved
+    ensures { λ r. ⌜ saving r (now (core .exit)) (memory base (now (window .exit))) ≡ saveOf Half.Lower (lowerOf pc (registers (now (d .entry)) (now (a .entry)) (now (core .entry)))) (now (core .entry)) (memory base (now (window .entry))) ⌝ }
+{
+    let words = lower(d, a, core, pc);
+    save(base, window, core, Half::Lower, words)
 }

@@ -7,7 +7,7 @@ use contexts::context::upper;
 use contexts::save::Room;
 use contexts::save::Saved;
 use contexts::save::find;
-use contexts::save::save;
+use contexts::save::save_upper;
 use contexts::save::take;
 use events::event::Ending;
 use events::event::Event;
@@ -54,8 +54,7 @@ pub fn trap(
 ) -> Ending
     ensures { λ r. ⌜ made r (registers (now (d .exit)) (now (a .exit)) (now (core .exit))) (memory base (now (window .exit))) ≡ trapOf t back (registers (now (d .entry)) (now (a .entry)) (now (core .entry))) (memory base (now (window .entry))) ⌝ }
 {
-    let words = upper(d, a, core);
-    match save(base, window, core, Half::Upper, words) {
+    match save_upper(base, window, d, a, core) {
         Saved::Stops(s) => Ending::Stopped(s),
         Saved::Done => {
             enter_trap(d, a, core, t, back);
@@ -80,8 +79,7 @@ pub fn interrupt(
 ) -> Ending
     ensures { λ r. ⌜ made r (registers (now (d .exit)) (now (a .exit)) (now (core .exit))) (memory base (now (window .exit))) ≡ interruptOf source level (registers (now (d .entry)) (now (a .entry)) (now (core .entry))) (memory base (now (window .entry))) ⌝ }
 {
-    let words = upper(d, a, core);
-    match save(base, window, core, Half::Upper, words) {
+    match save_upper(base, window, d, a, core) {
         Saved::Stops(s) => Ending::Stopped(s),
         Saved::Done => {
             enter_interrupt(d, a, core, level);

@@ -10,15 +10,15 @@ returns c = rw (← c .before .overflows .ensures, c .if1 .taken)
 
 returns-2 : tie.Need-returns-2
 unfolding callOf
-returns-2 c = rw (← c .before .before .before .before .before .before .before .before .before .before .before .before .before .overflows .ensures, c .before .before .before .before .before .before .before .before .before .before .before .before .if1 .left, ← c .before .before .before .before .before .before .before .before .upper .ensures, ← c .before .before .before .before .before .save .ensures, c .before .s .given .1)
+returns-2 c = rw (← c .before .before .before .before .before .before .before .before .before .before .before .overflows .ensures, c .before .before .before .before .before .before .before .before .before .before .if1 .left, ← c .before .before .before .before .before .save-upper .ensures, c .before .s .given .1)
 
 returns-3 : tie.Need-returns-3
 unfolding callOf
-returns-3 c = rw (← c .before .before .before .before .before .before .before .before .before .before .before .before .before .before .before .before .overflows .ensures, c .before .before .before .before .before .before .before .before .before .before .before .before .before .before .before .if1 .left, ← c .before .before .before .before .before .before .before .before .before .before .before .upper .ensures, ← c .before .before .before .before .before .before .before .before .save .ensures, c .before .before .before .before .enum-told .given .1, ← c .set-called .ensures)
+returns-3 c = rw (← c .before .before .before .before .before .before .before .before .before .before .before .before .before .before .overflows .ensures, c .before .before .before .before .before .before .before .before .before .before .before .before .before .if1 .left, ← c .before .before .before .before .before .before .before .before .save-upper .ensures, c .before .before .before .before .enum-told .given .1, ← c .set-called .ensures)
 
 returns-4 : tie.Need-returns-4
 unfolding callOf
-returns-4 c = rw (← c .before .before .before .before .before .before .before .before .before .before .before .before .before .before .before .before .overflows .ensures, c .before .before .before .before .before .before .before .before .before .before .before .before .before .before .before .if1 .left, ← c .before .before .before .before .before .before .before .before .before .before .before .upper .ensures, ← c .before .before .before .before .before .before .before .before .save .ensures, c .before .before .before .before .enum-told2 .given .1, ← c .set-called2 .ensures)
+returns-4 c = rw (← c .before .before .before .before .before .before .before .before .before .before .before .before .before .before .overflows .ensures, c .before .before .before .before .before .before .before .before .before .before .before .before .before .if1 .left, ← c .before .before .before .before .before .before .before .before .save-upper .ensures, c .before .before .before .before .enum-told2 .given .1, ← c .set-called2 .ensures)
 
 pub call-spec : {M : Type 1} → statement M
 call-spec =
@@ -27,7 +27,6 @@ call-spec =
     (λ c. search needs)
     (λ c κs. search needs)
     returns
-    (λ c κs. search needs)
     (λ c κs. search needs)
     (λ c. search needs)
     (λ c. search needs)

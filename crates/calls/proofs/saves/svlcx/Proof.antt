@@ -6,21 +6,20 @@ use Rattle.calls.proofs.saves.svlcx.Tie as tie
 
 returns : tie.Need-returns
 unfolding svlcxOf
-returns c = rw (← c .before .before .before .before .before .before .before .before .lower .ensures, ← c .before .before .before .before .before .save .ensures, c .before .s .given .1)
+returns c = rw (← c .before .before .before .before .before .save-lower .ensures, c .before .s .given .1)
 
 returns-2 : tie.Need-returns-2
 unfolding svlcxOf
-returns-2 c = rw (← c .before .before .before .before .before .before .before .lower .ensures, ← c .before .before .before .before .save .ensures, c .enum-told .given .1)
+returns-2 c = rw (← c .before .before .before .before .save-lower .ensures, c .enum-told .given .1)
 
 returns-3 : tie.Need-returns-3
 unfolding svlcxOf
-returns-3 c = rw (← c .before .before .before .before .before .before .before .lower .ensures, ← c .before .before .before .before .save .ensures, c .enum-told2 .given .1)
+returns-3 c = rw (← c .before .before .before .before .save-lower .ensures, c .enum-told2 .given .1)
 
 pub svlcx-spec : {M : Type 1} → statement M
 svlcx-spec =
     tie.close
     (tie.spec
-    (λ c κs. search needs)
     (λ c κs. search needs)
     (λ c. search needs)
     (λ c. search needs)
