@@ -136,7 +136,7 @@ fn put(d: &mut [u32; 16], a: &mut [u32; 16], core: &mut [u32; 10], op: Load, c: 
 }
 
 // A load that protection permits.
-fn load_at(
+fn load_as(
     base: u32,
     window: &[u8],
     d: &mut [u32; 16],
@@ -163,6 +163,30 @@ fn load_at(
             core[PC] = i.next;
             How::Done
         }
+    }
+}
+
+// The same, with a branch of its own for each operation: what depends on the operation alone is settled in it.
+fn load_at(
+    base: u32,
+    window: &[u8],
+    d: &mut [u32; 16],
+    a: &mut [u32; 16],
+    core: &mut [u32; 10],
+    op: Load,
+    i: Instruction,
+    address: u32,
+) -> How
+    requires { ⌜ FieldsHold i ⌝ }
+    ensures { λ r. ⌜ ended r (registers (now (d .exit)) (now (a .exit)) (now (core .exit))) ≡ loadAtOf op i address (registers (now (d .entry)) (now (a .entry)) (now (core .entry))) (memory base (now (window .entry))) ⌝ }
+{
+    match op {
+        Load::LdB => load_as(base, window, d, a, core, Load::LdB, i, address),
+        Load::LdBu => load_as(base, window, d, a, core, Load::LdBu, i, address),
+        Load::LdH => load_as(base, window, d, a, core, Load::LdH, i, address),
+        Load::LdHu => load_as(base, window, d, a, core, Load::LdHu, i, address),
+        Load::LdW => load_as(base, window, d, a, core, Load::LdW, i, address),
+        Load::LdA => load_as(base, window, d, a, core, Load::LdA, i, address),
     }
 }
 

@@ -77,7 +77,7 @@ fn write(window: &mut [u8], op: Store, at: usize, v: u32)
 }
 
 // A store that protection permits.
-fn store_at(
+fn store_as(
     base: u32,
     window: &mut [u8],
     d: &mut [u32; 16],
@@ -101,6 +101,28 @@ fn store_at(
             core[PC] = i.next;
             How::Done
         }
+    }
+}
+
+// The same, with a branch of its own for each operation: what depends on the operation alone is settled in it.
+fn store_at(
+    base: u32,
+    window: &mut [u8],
+    d: &mut [u32; 16],
+    a: &mut [u32; 16],
+    core: &mut [u32; 10],
+    op: Store,
+    i: Instruction,
+    address: u32,
+) -> How
+    requires { ⌜ FieldsHold i ⌝ }
+    ensures { λ r. ⌜ did r (registers (now (d .exit)) (now (a .exit)) (now (core .exit))) (memory base (now (window .exit))) ≡ performOf (storeAtOf op i address (registers (now (d .entry)) (now (a .entry)) (now (core .entry))) (memory base (now (window .entry)))) (registers (now (d .entry)) (now (a .entry)) (now (core .entry))) (memory base (now (window .entry))) ⌝ }
+{
+    match op {
+        Store::StB => store_as(base, window, d, a, core, Store::StB, i, address),
+        Store::StH => store_as(base, window, d, a, core, Store::StH, i, address),
+        Store::StW => store_as(base, window, d, a, core, Store::StW, i, address),
+        Store::StA => store_as(base, window, d, a, core, Store::StA, i, address),
     }
 }
 

@@ -7,6 +7,7 @@ use crate::saves::bisr;
 use crate::saves::call;
 use crate::saves::svlcx;
 use acts::How;
+use acts::passed_on;
 use events::trap::system_call;
 use image::fetch::Instruction;
 use operations::Context;
@@ -34,12 +35,12 @@ pub fn execute_context(
     match op {
         Context::Call => {
             let to = plus(core[PC], i.imm);
-            call(base, window, d, a, core, to, i.next)
+            passed_on(call(base, window, d, a, core, to, i.next))
         }
         Context::Calli => {
             let x = i.a;
             let to = a[x];
-            call(base, window, d, a, core, to, i.next)
+            passed_on(call(base, window, d, a, core, to, i.next))
         }
         Context::Ret => ret(base, window, d, a, core),
         Context::Rfe => rfe(base, window, d, a, core),

@@ -21,6 +21,8 @@ use Rattle.contexts.specs.declared.save.Room.{Room}
 use Rattle.contexts.specs.declared.save.Room.the-variants as room
 use Rattle.contexts.specs.declared.save.Saved.{Saved}
 use Rattle.contexts.specs.declared.save.Saved.the-variants as saved
+use Rattle.entries.specs.declared.entry.Cause.{Cause}
+use Rattle.entries.specs.declared.entry.Cause.the-variants as cause
 
 -- A10 = ISP if IS was 0
 unfoldable pub stackOf : ℕ → ℕ → ℕ → ℕ
@@ -77,6 +79,15 @@ entering e then r saved.Depleted core m = fcdOf (then (withCores core r)) m
 -- an upper save, then the registers
 abbrev pub entryOf : Event → (Registers → Registers) → Registers → Memory → MadeOf
 entryOf e then r m = let v = saveOf Upper (upperOf r) (r .core) m in entering e then r (v .saved) (v .core) (v .memory)
+
+-- the event of an entry's cause, and the registers that it sets
+abbrev pub causeEvent : Cause → Event
+causeEvent (cause.Trap t back) = event.Trap t
+causeEvent (cause.Interrupt source level) = event.Interrupt source
+
+abbrev pub causeEntry : Cause → Registers → Registers
+causeEntry (cause.Trap t back) = trapEntry t back
+causeEntry (cause.Interrupt source level) = interruptEntry level
 
 unfoldable pub trapOf : Trap → ℕ → Registers → Memory → MadeOf
 trapOf t back r m = entryOf (event.Trap t) (trapEntry t back) r m

@@ -18,7 +18,7 @@ use registers::PC;
 ghost use mathlib.Core.Path.{_≡_};
 ghost use Rattle.memory.specs.Memory.{memory};
 ghost use Rattle.registers.specs.Registers.{registers};
-ghost use Rattle.entries.specs.Entry.{made, fcdOf, trapOf, interruptOf};
+ghost use Rattle.entries.specs.Entry.{made, fcdOf, causeEvent, causeEntry, entryOf, trapOf, interruptOf};
 
 // The FCD entry after a step's save: it works on the state that the step had reached.
 pub fn enter_fcd(
@@ -42,6 +42,56 @@ pub fn enter_fcd(
     }
 }
 
+// What an entry is for.
+enum Cause {
+    // with the return address
+    Trap(Trap, u32),
+    // with the source and its priority number
+    Interrupt(u8, u8),
+}
+
+fn event_of(cause: Cause) -> Event
+    ensures { λ r. ⌜ r ≡ causeEvent cause ⌝ }
+{
+    match cause {
+        Cause::Trap(t, _) => Event::Trap(t),
+        Cause::Interrupt(source, _) => Event::Interrupt(source),
+    }
+}
+
+fn set_entry(d: &mut [u32; 16], a: &mut [u32; 16], core: &mut [u32; 10], cause: Cause)
+    ensures { λ _. ⌜ registers (now (d .exit)) (now (a .exit)) (now (core .exit)) ≡ causeEntry cause (registers (now (d .entry)) (now (a .entry)) (now (core .entry))) ⌝ }
+{
+    match cause {
+        Cause::Trap(t, back) => enter_trap(d, a, core, t, back),
+        Cause::Interrupt(_, level) => enter_interrupt(d, a, core, level),
+    }
+}
+
+// An entry. One function for both causes: the run's loop calls it, and holds none of its work.
+fn enter(
+    base: u32,
+    window: &mut [u8],
+    d: &mut [u32; 16],
+    a: &mut [u32; 16],
+    core: &mut [u32; 10],
+    cause: Cause,
+) -> Ending
+    ensures { λ r. ⌜ made r (registers (now (d .exit)) (now (a .exit)) (now (core .exit))) (memory base (now (window .exit))) ≡ entryOf (causeEvent cause) (causeEntry cause) (registers (now (d .entry)) (now (a .entry)) (now (core .entry))) (memory base (now (window .entry))) ⌝ }
+{
+    match save_upper(base, window, d, a, core) {
+        Saved::Stops(s) => Ending::Stopped(s),
+        Saved::Done => {
+            set_entry(d, a, core, cause);
+            Ending::Made(event_of(cause))
+        }
+        Saved::Depleted => {
+            set_entry(d, a, core, cause);
+            enter_fcd(base, window, d, a, core)
+        }
+    }
+}
+
 // A trap, with the return address.
 pub fn trap(
     base: u32,
@@ -54,17 +104,7 @@ pub fn trap(
 ) -> Ending
     ensures { λ r. ⌜ made r (registers (now (d .exit)) (now (a .exit)) (now (core .exit))) (memory base (now (window .exit))) ≡ trapOf t back (registers (now (d .entry)) (now (a .entry)) (now (core .entry))) (memory base (now (window .entry))) ⌝ }
 {
-    match save_upper(base, window, d, a, core) {
-        Saved::Stops(s) => Ending::Stopped(s),
-        Saved::Done => {
-            enter_trap(d, a, core, t, back);
-            Ending::Made(Event::Trap(t))
-        }
-        Saved::Depleted => {
-            enter_trap(d, a, core, t, back);
-            enter_fcd(base, window, d, a, core)
-        }
-    }
+    enter(base, window, d, a, core, Cause::Trap(t, back))
 }
 
 // An interrupt from a source, with its priority number.
@@ -79,15 +119,5 @@ pub fn interrupt(
 ) -> Ending
     ensures { λ r. ⌜ made r (registers (now (d .exit)) (now (a .exit)) (now (core .exit))) (memory base (now (window .exit))) ≡ interruptOf source level (registers (now (d .entry)) (now (a .entry)) (now (core .entry))) (memory base (now (window .entry))) ⌝ }
 {
-    match save_upper(base, window, d, a, core) {
-        Saved::Stops(s) => Ending::Stopped(s),
-        Saved::Done => {
-            enter_interrupt(d, a, core, level);
-            Ending::Made(Event::Interrupt(source))
-        }
-        Saved::Depleted => {
-            enter_interrupt(d, a, core, level);
-            enter_fcd(base, window, d, a, core)
-        }
-    }
+    enter(base, window, d, a, core, Cause::Interrupt(source, level))
 }

@@ -1,6 +1,6 @@
 -- The fetch: the loop's turns, and the bounds of what it finds.
 -- Assumes nothing.
-use Prim.Native.Nat.{ℕ, zero, suc, _+_, _-_, _*_, _/_, _%_, _≤_, _<_}
+use Prim.Native.Nat.{ℕ, zero, suc, _+_, _-_, _*_, _/_, _%_, _^_, _≤_, _<_}
 use native.Mathlib.Nat.{lt-of-not-le}
 use native.Mathlib.Decide.{decLe, ℕ-discrete}
 use native.Mathlib.Numerals.{add-one}
@@ -8,7 +8,7 @@ use native.Mathlib.Omega.{arith}
 use mathlib.Core.Path.{_≡_, refl, sym, subst, _∙_}
 use mathlib.Core.Bool.{Bool, true, false, cond}
 use mathlib.Core.List.{List}
-use borrow.Author.Tests.{leb-true, ltb-true, le-leb, lt-ltb, eq-eqb, ne-eqb}
+use borrow.Author.Tests.{leb-true, ltb-true, le-leb, lt-leb, lt-ltb, le-ltb, eq-eqb, ne-eqb}
 use lib.ListN.{length}
 use lib.Dec.{leb, ltb}
 use Rattle.image.specs.Table.{entriesOf, entryAt, bodiesOf}
@@ -23,6 +23,16 @@ pub covered : (e : Entry) (pc : ℕ) → covers e pc ≡ true → (e .load ≤ p
 covered e pc h =
     let t = both-true (leb (e .load) pc) (ltb ((pc - e .load) / 4) (e .records)) h in
     (leb-true (e .load) pc (t .0), ltb-true ((pc - e .load) / 4) (e .records) (t .1))
+
+-- the distance from the load address, wrapped, covers pc as well: below it no code range reaches
+pub covers-wrapped : (e : Entry) (pc far : ℕ) → pc < 2 ^ 32 → far < 2 ^ 32 → (far + e .load) % 2 ^ 32 ≡ pc → e .load + 4 * e .records ≤ 2 ^ 32 → ltb (far / 4) (e .records) ≡ covers e pc
+covers-wrapped e pc far p f w b = go (decLe (e .load) pc)
+  where
+    go : Dec (e .load ≤ pc) → ltb (far / 4) (e .records) ≡ covers e pc
+    go (yes l) = let d : far ≡ pc - e .load = omega arith in rw (le-leb (e .load) pc l, d)
+    go (no l) =
+        let s : pc < e .load = lt-of-not-le l in
+        rw (lt-leb (e .load) pc s) (le-ltb (far / 4) (e .records) (omega arith))
 
 module _ (n : ℕ) (img : List ℕ) (i pc : ℕ) (e : Entry) (is : e ≡ entryAt img i) (h : i < n) where
   left : n - i ≡ suc (n - (i + 1))

@@ -6,7 +6,7 @@ use memory::word_at;
 use operations::Operation;
 use operations::decode;
 ghost use mathlib.Core.Path.{_≡_};
-ghost use Prim.Native.Nat.{_+_, _*_, _≤_, _<_};
+ghost use Prim.Native.Nat.{_+_, _*_, _^_, _≤_, _<_};
 ghost use lib.ListN.{length};
 ghost use Rattle.image.specs.Records.{ImageHolds};
 ghost use Rattle.image.specs.Fetch.{instructionAt, covers, fetchOf, Bounded, FetchSays};
@@ -47,24 +47,21 @@ fn wide(b: u8) -> usize
     b as usize
 }
 
-// Whether pc lies in the entry's code range.
+// Whether pc lies in the entry's code range. From a pc below the load address the distance wraps, past every range's end.
 fn in_range(e: Entry, pc: u32) -> bool
+    requires { ⌜ e .load + 4 * e .records ≤ 2 ^ 32 ⌝ }
     ensures { λ r. ⌜ r ≡ covers e pc ⌝ }
 {
-    if pc < e.load {
-        return false;
-    }
-    (pc - e.load) / 4 < e.records
+    std::num::wrapping_sub_u32(pc, e.load) / 4 < e.records
 }
 
-// The record that begins at pc, of an image that rules 2 and 3 accept.
+// The record that begins at pc, of an image that rules 2 and 3 accept. The count is read only where the first entry does not cover pc.
 pub fn fetch(image: &[u8], pc: u32) -> Fetched
     requires { ⌜ ImageHolds (now image) ⌝ }
     ensures { λ r. ⌜ (r ≡ fetchOf (now (image .entry)) pc) × Bounded r × FetchSays (now (image .entry)) pc r ⌝ }
 {
-    let n = word_at(image, 0);
     let mut i: u32 = 0;
-    while i < n {
+    loop {
         let e = read_entry(image, i as usize);
         if in_range(e, pc) {
             let far = pc - e.load;
@@ -74,6 +71,8 @@ pub fn fetch(image: &[u8], pc: u32) -> Fetched
             return Fetched::Nothing;
         }
         i += 1;
+        if i == word_at(image, 0) {
+            return Fetched::Nothing;
+        }
     }
-    Fetched::Nothing
 }

@@ -61,17 +61,17 @@ fn enabled(mode: u32, right: Right) -> bool
     }
 }
 
-// Whether a range permits the access to an address.
+// Whether a range permits the access to an address. The mode is tried first: a range that is not in use has no right.
 fn permitting(g: Range, right: Right, address: u32) -> bool
     ensures { λ r. ⌜ r ≡ permits g right address ⌝ }
 {
+    if !enabled(g.mode, right) {
+        return false;
+    }
     if address < g.lower {
         return false;
     }
-    if g.upper <= address {
-        return false;
-    }
-    enabled(g.mode, right)
+    address < g.upper
 }
 
 // The number of a set's first range for the right.

@@ -1,39 +1,37 @@
 -- `accesses::store::store_at` meets its contract. Assumes nothing.
 use borrow.Author.Needs.{needs}
-use mathlib.Core.Path.{sym, _∙_}
-use Rattle.areas.proofs.Places.{place-found}
-use Rattle.accesses.specs.Store.{storeAtOf}
 use Rattle.accesses.proofs.store.store_at.Statement.{statement}
 use Rattle.accesses.proofs.store.store_at.Tie as tie
 
 returns : tie.Need-returns
-unfolding storeAtOf
-returns c = rw (← c .before .aligned .ensures, c .if1 .taken)
-
-write-requires : tie.Need-write-requires
-write-requires c κs = rw (c .before .before .before .before .before .before .before .before .size .ensures) at (place-found _ _ _ _ _ (sym (c .before .before .before .before .before .before .before .place-at .ensures) ∙ c .before .before .before .before .before .at .given .1) .inside)
+returns c = rw (c .before .before .before .before .before .before .before .enum-told .given .1) (c .before .before .store-as .ensures)
 
 returns-2 : tie.Need-returns-2
-unfolding storeAtOf
-returns-2 c = rw (← c .before .before .before .before .before .aligned .ensures, c .before .before .before .before .if1 .left, ← c .before .before .before .size .ensures, ← c .before .before .place-at .ensures, c .enum-told .given .1)
+returns-2 c = rw (c .before .before .before .before .before .before .before .enum-told2 .given .1) (c .before .before .store-as2 .ensures)
 
 returns-3 : tie.Need-returns-3
-unfolding storeAtOf
-returns-3 c = rw (← c .before .before .before .before .before .before .before .before .before .before .before .before .before .aligned .ensures, c .before .before .before .before .before .before .before .before .before .before .before .before .if1 .left, ← c .before .before .before .before .before .before .before .before .before .before .before .size .ensures, ← c .before .before .before .before .before .before .before .before .before .before .place-at .ensures, c .before .before .before .before .before .before .before .before .at .given .1, ← c .before .before .before .before .value .ensures, ← c .before .before .write .ensures)
+returns-3 c = rw (c .before .before .before .before .before .before .before .enum-told3 .given .1) (c .before .before .store-as3 .ensures)
+
+returns-4 : tie.Need-returns-4
+returns-4 c = rw (c .before .before .before .before .before .before .before .enum-told4 .given .1) (c .before .before .store-as4 .ensures)
 
 pub store-at-spec : {M : Type 1} → statement M
 store-at-spec =
     tie.close
     (tie.spec
+    (λ c. search needs)
     (λ c κs. search needs)
+    (λ c. search needs)
+    (λ c κs. search needs)
+    (λ c. search needs)
+    (λ c κs. search needs)
+    (λ c. search needs)
+    (λ c κs. search needs)
+    (λ c. search needs)
     returns
-    (λ c κs. search needs)
-    (λ c κs. search needs)
-    (λ c. search needs)
-    (λ c. search needs)
-    (λ c κs. search needs)
-    write-requires
     (λ c. search needs)
     returns-2
     (λ c. search needs)
-    returns-3)
+    returns-3
+    (λ c. search needs)
+    returns-4)

@@ -6,11 +6,11 @@ use Rattle.calls.proofs.instructions.execute_context.Tie as tie
 
 returns : tie.Need-returns
 unfolding contextOp
-returns c = rw (c .before .before .before .before .before .before .before .before .before .enum-told .given .1, ← c .before .before .before .before .before .before .before .plus .ensures) (c .before .before .call .ensures)
+returns c = rw (c .before .before .before .before .before .before .before .before .before .before .enum-told .given .1, ← c .before .before .before .before .before .before .before .before .plus .ensures, c .passed-on .ensures) (c .before .before .before .call .ensures)
 
 returns-2 : tie.Need-returns-2
 unfolding contextOp
-returns-2 c = rw (c .before .before .before .before .before .before .before .before .enum-told2 .given .1) (c .before .before .call2 .ensures)
+returns-2 c = rw (c .before .before .before .before .before .before .before .before .before .enum-told2 .given .1, c .passed-on2 .ensures) (c .before .before .before .call2 .ensures)
 
 returns-3 : tie.Need-returns-3
 unfolding contextOp
@@ -44,9 +44,11 @@ execute-context-spec =
     (λ c. search needs)
     (λ c κs. search needs)
     (λ c κs. search needs)
+    (λ c κs. search needs)
     (λ c. search needs)
     (λ c. search needs)
     (λ c. search needs)
+    (λ c κs. search needs)
     (λ c κs. search needs)
     (λ c. search needs)
     (λ c κs. search needs)

@@ -6,15 +6,7 @@ use Rattle.entries.proofs.entry.trap.Tie as tie
 
 returns : tie.Need-returns
 unfolding trapOf
-returns c = rw (← c .before .before .before .before .before .save-upper .ensures, c .before .s .given .1)
-
-returns-2 : tie.Need-returns-2
-unfolding trapOf
-returns-2 c = rw (← c .before .before .before .before .before .before .before .before .save-upper .ensures, c .before .before .before .before .enum-told .given .1, ← c .enter-trap .ensures)
-
-returns-3 : tie.Need-returns-3
-unfolding trapOf
-returns-3 c = rw (← c .before .before .before .before .before .before .before .before .before .before .before .before .before .before .before .save-upper .ensures, c .before .before .before .before .before .before .before .before .before .before .before .enum-told2 .given .1, ← c .before .before .before .before .before .before .before .enter-trap2 .ensures) (c .before .before .enter-fcd .ensures)
+returns c = c .before .before .enter .ensures
 
 pub trap-spec : {M : Type 1} → statement M
 trap-spec =
@@ -22,14 +14,4 @@ trap-spec =
     (tie.spec
     (λ c κs. search needs)
     (λ c. search needs)
-    (λ c. search needs)
-    (λ c κs. search needs)
-    (λ c. search needs)
-    (λ c κs. search needs)
-    (λ c κs. search needs)
-    (λ c. search needs)
-    returns
-    (λ c. search needs)
-    returns-2
-    (λ c. search needs)
-    returns-3)
+    returns)

@@ -1,11 +1,16 @@
 -- `image::fetch::in_range` meets its contract. Assumes nothing.
-use borrow.Author.Tests.{lt-leb, le-leb}
+use borrow.Author.Needs.{needs}
+use native.Mathlib.Omega.{arith}
+use Rattle.image.proofs.Fetches.{covers-wrapped}
 use Rattle.image.proofs.fetch.in_range.Statement.{statement}
 use Rattle.image.proofs.fetch.in_range.Tie as tie
+
+returns : tie.Need-returns
+returns c = covers-wrapped (c .before .before .args .e) _ _ (omega arith) (omega arith) (c .before .wrapping-sub-u32 .ensures) (c .before .before .pre)
 
 pub in-range-spec : {M : Type 1} → statement M
 in-range-spec =
     tie.close
     (tie.spec
-    (λ c. rw (lt-leb _ _ (c .if1 .taken)))
-    (λ c. rw (le-leb _ _ (c .before .before .if1 .left))))
+    (λ c κs. search needs)
+    returns)
