@@ -1,9 +1,11 @@
 -- What the inner loop works with: an accepted machine whose values are those that the code can hold.
 use Prim.Native.Nat.{ℕ}
 use mathlib.Core.Path.{_≡_}
-use mathlib.Core.Bool.{Bool, cond}
+use mathlib.Core.Bool.{Bool, false, cond}
 use mathlib.Core.List.{List}
+use mathlib.Core.Logic.{_⊎_}
 use Rattle.memory.specs.Memory.{Memory}
+use Rattle.fields.specs.Icr.{ICR·IE}
 use Rattle.registers.specs.Registers.{pc, icr}
 use Rattle.registers.specs.declared.Registers.{Registers}
 use Rattle.protection.specs.declared.range.Range.{Range}
@@ -15,6 +17,10 @@ use Rattle.inputs.specs.declared.verdict.Verdict.the-variants.{Accepted}
 use Rattle.decisions.specs.Valid.{Valid, Bytes}
 use Rattle.decisions.specs.Phases.{interrupted, instructionOf}
 use Rattle.machine.specs.Permits.{FetchNotes, AccessNotes}
+
+-- the best source, for n steps from that ICR on: any will do for a single step that takes none
+abbrev pub Foremost : ℕ → ℕ → List ℕ → Best → Type 0
+Foremost n icr xs best = (best ≡ bestOf xs) ⊎ ((n ≡ 1) × (ICR·IE icr ≡ false))
 
 -- one step, where it is known whether the best source is taken
 abbrev pub oneBy : Bool → Best → List ℕ → Registers → List Range → Memory → MadeOf

@@ -39,7 +39,7 @@ ghost use Rattle.entries.specs.Entry.{made};
 ghost use Rattle.machine.specs.Step.{outcomeOf, stepped, stepOf};
 ghost use Rattle.machine.specs.Run.{ran, runFrom, runOf};
 ghost use Rattle.machine.specs.Permits.{FetchNotes, AccessNotes, fetchOfStep, dataOfStep, PermitSays};
-ghost use Rattle.machine.specs.Inner.{oneBy, Ready, FirstNotes};
+ghost use Rattle.machine.specs.Inner.{Foremost, oneBy, Ready, FirstNotes};
 ghost use Rattle.machine.specs.declared.answer.Outcome.the-variants as outcome;
 ghost use Rattle.events.specs.declared.event.Event.the-variants as event;
 
@@ -77,6 +77,21 @@ fn one(
     }
 }
 
+// The best source at the start of n steps. A single step with IE 0 takes none, and the sources are not looked through for it.
+fn first_source(sources: [u32; 16], icr: u32, n: u32) -> Best
+    ensures { λ r. ⌜ Foremost n icr sources r ⌝ }
+{
+    if n == 1 {
+        if !fields::icr::enabled(icr) {
+            return Best {
+                source: 16,
+                level: 0,
+            };
+        }
+    }
+    best_source(sources)
+}
+
 // Where the inner loop ended.
 struct Went {
     registers: Registers,
@@ -106,7 +121,7 @@ fn go(
     let mut a = start.a;
     let mut core = start.core;
     let mut xs = requests;
-    let mut best = best_source(xs);
+    let mut best = first_source(xs, core[ICR], n);
     let mut last = Event::Instruction;
     let mut fetched: usize = 32;
     let mut accessed: usize = 32;

@@ -20,7 +20,7 @@ abbrev μ-loop : tie.MeasureT-loop
 μ-loop base window₀ image n words d₀ a₀ core₀ xs₀ best₀ last₀ fetched₀ accessed₀ made₀ window d a core xs best last fetched accessed made = n - made
 
 loop-holds : tie.Need-loop-holds Inv-loop μ-loop
-loop-holds c = (omega arith, refl, turn-start _ _ _ _ _ _ _ (c .before .before .before .before .before .before .before .pre) (c .best-source .ensures .0))
+loop-holds c = (omega arith, refl, turn-start _ _ _ _ _ _ _ (c .before .before .before .before .before .before .before .pre) (c .first-source .ensures))
 
 one-requires : tie.Need-one-requires Inv-loop μ-loop
 one-requires c κs = image-holds _ _ _ (c .before .before .before .before .before .before .before .before .before .loop .inv .2 .ready .accepted)
@@ -35,7 +35,7 @@ loop-again : tie.Need-loop-again Inv-loop μ-loop
 loop-again c = (omega arith, c .before .before .before .before .before .before .one .kept .1 .0 ∙ c .before .before .before .before .before .before .before .before .before .before .before .before .before .before .before .before .loop .inv .1, turn-plain _ _ _ _ _ _ (c .before .before .before .before .before .before .before .before .before .before .before .before .before .before .before .before .loop .inv .2) (c .before .before .before .before .before .before .before .before .before .before .before .before .before .before .taken .ensures) (c .before .before .before .before .before .before .one .ensures .0) _ _ (c .before .before .before .before .before .before .one .ensures .1 .0) (c .before .before .before .before .before .before .one .ensures .1 .1) _ (c .before .before .before .before .before .before .before .before .before .before .before .before .before .before .before .loop-test .taken) (c .before .before .ending .given .1) (not-true _ (c .if1 .taken)))
 
 loop-again-2 : tie.Need-loop-again-2 Inv-loop μ-loop
-loop-again-2 c = (omega arith, c .before .before .before .before .before .before .before .before .one .kept .1 .0 ∙ c .before .before .before .before .before .before .before .before .before .before .before .before .before .before .before .before .before .before .loop .inv .1, turn-interrupt _ _ _ _ _ _ (c .before .before .before .before .before .before .before .before .before .before .before .before .before .before .before .before .before .before .loop .inv .2) (c .before .before .before .before .before .before .before .before .before .before .before .before .before .before .before .before .taken .ensures) (c .before .before .before .before .before .before .before .before .one .ensures .0) _ _ (c .before .before .before .before .before .before .before .before .one .ensures .1 .0) (c .before .before .before .before .before .before .before .before .one .ensures .1 .1) _ (c .before .before .before .before .before .before .before .before .before .before .before .before .before .before .before .before .before .loop-test .taken) (c .before .before .before .before .ending .given .1) (not-false _ (c .before .before .if1 .left)) _ _ (c .before .cleared .ensures) (c .best-source2 .ensures .0))
+loop-again-2 c = (omega arith, c .before .before .before .before .before .before .before .before .one .kept .1 .0 ∙ c .before .before .before .before .before .before .before .before .before .before .before .before .before .before .before .before .before .before .loop .inv .1, turn-interrupt _ _ _ _ _ _ (c .before .before .before .before .before .before .before .before .before .before .before .before .before .before .before .before .before .before .loop .inv .2) (c .before .before .before .before .before .before .before .before .before .before .before .before .before .before .before .before .taken .ensures) (c .before .before .before .before .before .before .before .before .one .ensures .0) _ _ (c .before .before .before .before .before .before .before .before .one .ensures .1 .0) (c .before .before .before .before .before .before .before .before .one .ensures .1 .1) _ (c .before .before .before .before .before .before .before .before .before .before .before .before .before .before .before .before .before .loop-test .taken) (c .before .before .before .before .ending .given .1) (not-false _ (c .before .before .if1 .left)) _ _ (c .before .cleared .ensures) (c .best-source .ensures .0))
 
 returns-2 : tie.Need-returns-2 Inv-loop μ-loop
 returns-2 c = (rw (← c .before .before .before .before .before .before .flat .ensures) (turn-end _ _ _ _ _ _ _ _ _ _ _ _ _ _ (c .before .loop .inv .2) (c .before .loop .inv .0) (c .loop-test .left)), λ h. (rw (← c .before .before .before .before .before .before .flat .ensures) (c .before .loop .inv .2 .noted h (omega (arith, c .before .loop .inv .0, c .loop-test .left)))))
@@ -47,6 +47,7 @@ go-spec =
     Inv-loop
     μ-loop
     (λ c κs. search needs)
+    (λ c. search needs)
     (λ c κs. search needs)
     loop-holds
     (λ c. omega arith)
