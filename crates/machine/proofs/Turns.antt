@@ -170,9 +170,10 @@ module _ (n : ℕ) (img : List ℕ) (rs : List Range) (r₀ : Registers) (xs₀ 
     pub stop-notes : k < n → n ≡ 1 → FirstNotes img r₀ xs₀ rs fetched′ accessed′
     stop-notes h e = notes h (omega arith)
 
-  pub turn-end : (k : ℕ) (last : Event) (r : Registers) (xs : List ℕ) (m : Memory) (best : Best) (fetched accessed : ℕ) → Turn k last r xs m best fetched accessed → k ≤ n → n ≤ k
-      → ran (Made last) k r xs m ≡ runFrom n img rs (Made event.Instruction) 0 r₀ xs₀ m₀
-  turn-end k last r xs m best fetched accessed t p q = run-end n k img rs last r xs m p q ∙ t .run
+  pub turn-end : (k : ℕ) (last : Event) (r : Registers) (xs : List ℕ) (m : Memory) (best : Best) (fetched accessed : ℕ) → Turn k last r xs m best fetched accessed → k ≡ n
+      → ran (Made last) n r xs m ≡ runFrom n img rs (Made event.Instruction) 0 r₀ xs₀ m₀
+  turn-end k last r xs m best fetched accessed t e =
+      subst (λ (j : ℕ). ran (Made last) j r xs m ≡ runFrom n img rs (Made event.Instruction) 0 r₀ xs₀ m₀) e (run-end n k img rs last r xs m (omega arith) (omega arith) ∙ t .run)
 
 -- an accepted image holds
 never : {x : Refusal} → Refused x ≡ Accepted → ⊥

@@ -125,8 +125,8 @@ fn go(
     let mut last = Event::Instruction;
     let mut fetched: usize = 32;
     let mut accessed: usize = 32;
-    let mut made: u32 = 0;
-    while made < n {
+    let mut left = n;
+    while left != 0 {
         let interrupts = taken(core[ICR], best.level);
         let ending = one(
             base,
@@ -150,13 +150,13 @@ fn go(
                 },
                 requests: xs,
                 ending: ending,
-                made: made,
+                made: n - left,
                 fetched: fetched,
                 accessed: accessed,
             };
         };
         last = e;
-        made += 1;
+        left -= 1;
         if !interrupts {
             continue;
         }
@@ -172,7 +172,7 @@ fn go(
         },
         requests: xs,
         ending: Ending::Made(last),
-        made: made,
+        made: n,
         fetched: fetched,
         accessed: accessed,
     }
