@@ -63,7 +63,7 @@ pub fn take(window: &mut [u8], core: &mut [u32; 10], at: usize, half: Half, word
 }
 
 // A save. Nothing is written before it is known that neither it nor an FCD entry after it stops.
-pub fn save(
+fn save(
     base: u32,
     window: &mut [u8],
     core: &mut [u32; 10],
