@@ -63,13 +63,7 @@ pub fn take(window: &mut [u8], core: &mut [u32; 10], at: usize, half: Half, word
 }
 
 // A save. Nothing is written before it is known that neither it nor an FCD entry after it stops.
-fn save(
-    base: u32,
-    window: &mut [u8],
-    core: &mut [u32; 10],
-    half: Half,
-    words: [u32; 16],
-) -> Saved
+fn save(base: u32, window: &mut [u8], core: &mut [u32; 10], half: Half, words: [u32; 16]) -> Saved
     ensures { λ r. ⌜ saving r (now (core .exit)) (memory base (now (window .exit))) ≡ saveOf half words (now (core .entry)) (memory base (now (window .entry))) ⌝ }
 {
     match find(base, window.len(), core[FCX]) {
