@@ -1,3 +1,4 @@
 -- Loads and stores.
+pub mod Reach
 pub mod Load
 pub mod Store

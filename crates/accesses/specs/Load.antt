@@ -1,27 +1,23 @@
 -- Loads (002, 8.7 and chapter 9).
-use Prim.Native.Nat.{ℕ, _+_, _%_}
-use mathlib.Core.Bool.{Bool, true, false, not, cond}
+use Prim.Native.Nat.{ℕ, _+_}
+use mathlib.Core.Bool.{Bool, false, cond}
 use mathlib.Core.List.{List}
 use lib.ListN.{length, getD}
-use lib.Dec.{ltb, eqb}
+use lib.Dec.{ltb}
 use Rattle.memory.specs.Memory.{Memory}
 use Rattle.memory.specs.Word.{halfAt, wordAt}
-use Rattle.areas.specs.Place.{placedAt}
-use Rattle.areas.specs.declared.link.Place.{Place}
-use Rattle.areas.specs.declared.link.Place.the-variants.{At, Outside}
 use Rattle.operations.specs.declared.Load.{Load}
 use Rattle.operations.specs.declared.Load.the-variants.{LdB, LdBu, LdH, LdHu, LdW, LdA}
 use Rattle.image.specs.declared.fetch.Instruction.{Instruction}
 use Rattle.registers.specs.Registers.{psw, withD, withA, withPc, plusOf, guards}
 use Rattle.registers.specs.declared.Registers.{Registers}
-use Rattle.events.specs.Traps.{GRWP, ALN, DATA}
-use Rattle.protection.specs.Access.{checkOf}
 use Rattle.protection.specs.declared.range.Range.{Range}
 use Rattle.protection.specs.declared.range.Right.the-variants.{Read}
-use Rattle.protection.specs.declared.access.Check.{Check}
-use Rattle.protection.specs.declared.access.Check.the-variants.{Passes, Fails}
 use Rattle.acts.specs.Acts.{Ended, ended, done}
 use Rattle.acts.specs.declared.How.the-variants as how
+use Rattle.accesses.specs.Reach.{reachOf}
+use Rattle.accesses.specs.declared.reach.Reach.{Reach}
+use Rattle.accesses.specs.declared.reach.Reach.the-variants.{At, Traps}
 
 -- A[a] plus immediate, modulo 2^32
 abbrev pub addressIn : Instruction → List ℕ → ℕ
@@ -43,13 +39,13 @@ sizeOf LdW = 4
 sizeOf LdA = 4
 
 -- LD.A on 4, other words and halfwords on 2
-abbrev pub fits : Load → ℕ → Bool
-fits LdB address = true
-fits LdBu address = true
-fits LdH address = eqb (address % 2) 0
-fits LdHu address = eqb (address % 2) 0
-fits LdW address = eqb (address % 2) 0
-fits LdA address = eqb (address % 4) 0
+abbrev pub alignmentOf : Load → ℕ
+alignmentOf LdB = 1
+alignmentOf LdBu = 1
+alignmentOf LdH = 2
+alignmentOf LdHu = 2
+alignmentOf LdW = 2
+alignmentOf LdA = 4
 
 -- LD.A writes an address register
 abbrev pub loadGuards : Load → ℕ → ℕ → Bool
@@ -78,23 +74,11 @@ putOf LdHu c v r = withD c v r
 putOf LdW c v r = withD c v r
 putOf LdA c v r = withA c v r
 
--- 4/2: data not wholly in the window
-abbrev pub loadBy : Load → Instruction → Registers → Memory → Place → Ended
-loadBy op i r m Outside = ended (how.Trap DATA) r
+abbrev pub loadBy : Load → Instruction → Registers → Memory → Reach → Ended
+loadBy op i r m (Traps t) = ended (how.Trap t) r
 loadBy op i r m (At at) = done (withPc (i .next) (putOf op (i .c) (readOf op (m .bytes) at) r))
-
--- the traps after those of protection, lowest first: 1/7, 2/4, 4/2
-unfoldable pub loadAtOf : Load → Instruction → ℕ → Registers → Memory → Ended
-loadAtOf op i address r m =
-    cond (loadGuards op (psw r) (i .c)) (ended (how.Trap GRWP) r)
-    (cond (not (fits op address)) (ended (how.Trap ALN) r)
-    (loadBy op i r m (placedAt (m .base) (length (m .bytes)) (sizeOf op) (record { 0 = address }))))
-
-abbrev pub loadChecked : Load → Instruction → ℕ → Registers → Memory → Check → Ended
-loadChecked op i address r m (Fails t) = ended (how.Trap t) r
-loadChecked op i address r m Passes = loadAtOf op i address r m
 
 -- register c = the value at A[a] plus immediate
 unfoldable pub loadOf : Load → Instruction → Registers → List Range → Memory → Ended
 loadOf op i r rs m =
-    let address = addressIn i (r .a) in loadChecked op i address r m (checkOf (r .core) rs Read address)
+    loadBy op i r m (reachOf (m .base) (length (m .bytes)) (r .core) rs Read (loadGuards op (psw r) (i .c)) (sizeOf op) (alignmentOf op) (addressIn i (r .a)))

@@ -1,1 +1,4 @@
--- Laws that the proofs of several functions cite.
+-- Laws of acts.
+pub mod Steadiness
+pub mod Heads
+pub mod Plains

@@ -1,2 +1,3 @@
 -- Acts.
 pub mod Acts
+pub mod Steady

@@ -6,6 +6,8 @@ ghost use mathlib.Core.Path.{_≡_};
 
 pub enum How {
     Done,
+    // done, and ICR, SYSCON or PSW.PRS may have changed
+    Switched,
     // done, and an FCD entry follows
     Depleted,
     // the return address is the instruction's own
@@ -21,6 +23,7 @@ pub fn passed_on(h: How) -> How
 {
     match h {
         How::Done => How::Done,
+        How::Switched => How::Switched,
         How::Depleted => How::Depleted,
         How::Trap(t) => How::Trap(t),
         How::TrapAfter(t) => How::TrapAfter(t),

@@ -11,9 +11,7 @@ use lib.Pow.{shr-le}
 use lib.Signed.{ltZ, shrZ}
 use Rattle.words.specs.Bits.{number, complement, bit}
 use Rattle.words.specs.Value.{signed, count, least, largest, largestUnsigned}
-use Rattle.words.specs.declared.result.Flagged.{Flagged}
-use Rattle.words.specs.declared.result.Carried.{Carried}
-use Rattle.fields.specs.Psw.{PSW·C, flaggedOf, overflowedOf}
+use Rattle.fields.specs.Psw.{PSW·C}
 use Rattle.arithmetic.specs.Arithmetic.{addOf, subOf, rsubOf, addxOf, addcOf, subxOf, subcOf, addsOf, addsuOf, subsOf, subsuOf, mulOf, absOf, absdifOf}
 use Rattle.bitwise.specs.Shift.{shOf, shaOf, shaLeft, shaRight}
 use Rattle.bitwise.specs.Leading.{run, clzOf, cloOf, clsOf}
@@ -21,6 +19,7 @@ use Rattle.compare.specs.Compare.{equals, lessSigned, lessUnsigned}
 use Rattle.integer.specs.Integer.{computeOf}
 use Rattle.integer.specs.declared.Integer.{Integer}
 use Rattle.integer.specs.declared.Integer.the-variants.{Add, Sub, Rsub, Addx, Addc, Subx, Subc, Adds, AddsU, Subs, SubsU, Mul, And, Or, Xor, Nand, Nor, Xnor, Andn, Orn, Sh, Sha, Min, MinU, Max, MaxU, Abs, Absdif, Eq, Ne, Lt, LtU, Ge, GeU, Clz, Clo, Cls, Mov}
+use Rattle.integer.proofs.Status.{psw-of}
 use Rattle.bounds.proofs.Words.{wrapped-word, carried-word, saturated-word, number-word, complement-word, cond-word}
 use Rattle.bounds.proofs.Fields.{flagged-psw, overflowed-psw, and-word, or-word, xor-word}
 
@@ -102,50 +101,5 @@ compute-word Clo a b psw h k = omega (arith, clo-le a)
 compute-word Cls a b psw h k = omega (arith, cls-le a)
 compute-word Mov a b psw h k = k
 
--- PSW after a result with V and AV, and with C too
-flagged-psw-of : (f : Flagged) (psw : ℕ) → overflowedOf psw (f .v) (f .av) < 2 ^ 32
-flagged-psw-of f psw = overflowed-psw psw (f .v) (f .av)
-
-carried-psw-of : (f : Carried) (psw : ℕ) → flaggedOf psw (f .c) (f .v) (f .av) < 2 ^ 32
-carried-psw-of f psw = flagged-psw psw (f .c) (f .v) (f .av)
-
 pub compute-psw : (op : Integer) (a b psw : ℕ) → psw < 2 ^ 32 → computeOf op a b psw .psw < 2 ^ 32
-unfolding computeOf
-compute-psw Add a b psw h = flagged-psw-of (addOf a b) psw
-compute-psw Sub a b psw h = flagged-psw-of (subOf a b) psw
-compute-psw Rsub a b psw h = flagged-psw-of (rsubOf a b) psw
-compute-psw Addx a b psw h = carried-psw-of (addxOf a b) psw
-compute-psw Addc a b psw h = carried-psw-of (addcOf a b (PSW·C psw)) psw
-compute-psw Subx a b psw h = carried-psw-of (subxOf a b) psw
-compute-psw Subc a b psw h = carried-psw-of (subcOf a b (PSW·C psw)) psw
-compute-psw Adds a b psw h = flagged-psw-of (addsOf a b) psw
-compute-psw AddsU a b psw h = flagged-psw-of (addsuOf a b) psw
-compute-psw Subs a b psw h = flagged-psw-of (subsOf a b) psw
-compute-psw SubsU a b psw h = flagged-psw-of (subsuOf a b) psw
-compute-psw Mul a b psw h = flagged-psw-of (mulOf a b) psw
-compute-psw And a b psw h = h
-compute-psw Or a b psw h = h
-compute-psw Xor a b psw h = h
-compute-psw Nand a b psw h = h
-compute-psw Nor a b psw h = h
-compute-psw Xnor a b psw h = h
-compute-psw Andn a b psw h = h
-compute-psw Orn a b psw h = h
-compute-psw Sh a b psw h = h
-compute-psw Sha a b psw h = carried-psw-of (shaOf a b) psw
-compute-psw Min a b psw h = h
-compute-psw MinU a b psw h = h
-compute-psw Max a b psw h = h
-compute-psw MaxU a b psw h = h
-compute-psw Abs a b psw h = flagged-psw-of (absOf a) psw
-compute-psw Absdif a b psw h = flagged-psw-of (absdifOf a b) psw
-compute-psw Eq a b psw h = h
-compute-psw Ne a b psw h = h
-compute-psw Lt a b psw h = h
-compute-psw LtU a b psw h = h
-compute-psw Ge a b psw h = h
-compute-psw GeU a b psw h = h
-compute-psw Clz a b psw h = h
-compute-psw Clo a b psw h = h
-compute-psw Cls a b psw h = h
-compute-psw Mov a b psw h = h
+compute-psw op a b psw h = psw-of (λ (p : ℕ). p < 2 ^ 32) psw h (overflowed-psw psw) (flagged-psw psw) op a b

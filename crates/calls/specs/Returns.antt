@@ -2,6 +2,7 @@
 use Prim.Native.Nat.{ℕ}
 use mathlib.Core.Bool.{Bool, not, cond}
 use lib.Dec.{eqb}
+use Rattle.fields.specs.Psw.{PSW·PRS}
 use Rattle.fields.specs.Pcxi.{PCXI·PCPN, PCXI·PIE, PCXI·UL}
 use Rattle.fields.specs.Depth.{underflowsDown, nested}
 use Rattle.fields.specs.Icr.{icrOf}
@@ -12,6 +13,7 @@ use Rattle.events.specs.Traps.{CDU, CSU, CTYP, NEST}
 use Rattle.contexts.specs.declared.context.Half.{Half}
 use Rattle.contexts.specs.declared.context.Half.the-variants.{Upper, Lower}
 use Rattle.acts.specs.Acts.{Act, Ends, Return, ended}
+use Rattle.acts.specs.declared.How.{How}
 use Rattle.acts.specs.declared.How.the-variants as how
 use Rattle.calls.specs.declared.returns.Previous.{Previous}
 use Rattle.calls.specs.declared.returns.Previous.the-variants.{There, Traps}
@@ -28,6 +30,10 @@ previousOf half word = cond (eqb (linkOf word .0) 0) (Traps CSU) (cond (isOf hal
 abbrev pub returning : Registers → Act → Previous → Act
 returning r act (Traps t) = Ends (ended (how.Trap t) r)
 returning r act There = act
+
+-- a return that is done says whether PSW.PRS is what it was
+abbrev pub doneOf : ℕ → ℕ → How
+doneOf set psw = cond (eqb (PSW·PRS psw) set) how.Done how.Switched
 
 -- RET: PC = A11, upper return, all of PSW. 3/3 where CDC would underflow. ICR stays
 unfoldable pub retOf : Registers → Act

@@ -18,6 +18,7 @@ ghost use Rattle.memory.specs.Memory.{memory};
 ghost use Rattle.registers.specs.Registers.{registers};
 ghost use Rattle.image.specs.Fetch.{FieldsHold};
 ghost use Rattle.acts.specs.Acts.{did, performOf};
+ghost use Rattle.acts.specs.Steady.{plainly, Keeps};
 ghost use Rattle.calls.specs.Instructions.{contextOp};
 
 pub fn execute_context(
@@ -30,7 +31,8 @@ pub fn execute_context(
     i: Instruction,
 ) -> How
     requires { ⌜ FieldsHold i ⌝ }
-    ensures { λ r. ⌜ did r (registers (now (d .exit)) (now (a .exit)) (now (core .exit))) (memory base (now (window .exit))) ≡ performOf (contextOp op i (registers (now (d .entry)) (now (a .entry)) (now (core .entry)))) (registers (now (d .entry)) (now (a .entry)) (now (core .entry))) (memory base (now (window .entry))) ⌝ }
+    ensures { λ r. ⌜ did (plainly r) (registers (now (d .exit)) (now (a .exit)) (now (core .exit))) (memory base (now (window .exit))) ≡ performOf (contextOp op i (registers (now (d .entry)) (now (a .entry)) (now (core .entry)))) (registers (now (d .entry)) (now (a .entry)) (now (core .entry))) (memory base (now (window .entry))) ⌝ }
+    ensures { λ r. ⌜ Keeps r (registers (now (d .entry)) (now (a .entry)) (now (core .entry))) (registers (now (d .exit)) (now (a .exit)) (now (core .exit))) ⌝ }
 {
     match op {
         Context::Call => {

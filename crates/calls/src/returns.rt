@@ -21,9 +21,10 @@ use registers::PSW;
 use registers::new_pc;
 ghost use mathlib.Core.Path.{_≡_};
 ghost use Rattle.memory.specs.Memory.{memory};
-ghost use Rattle.registers.specs.Registers.{registers, withPc};
-ghost use Rattle.acts.specs.Acts.{did, performOf, Return};
-ghost use Rattle.calls.specs.Returns.{isOf, previousOf, retOf, rfeOf, rslcxOf};
+ghost use Rattle.registers.specs.Registers.{registers};
+ghost use Rattle.acts.specs.Acts.{did, performOf};
+ghost use Rattle.acts.specs.Steady.{plainly, Keeps};
+ghost use Rattle.calls.specs.Returns.{isOf, previousOf, doneOf, retOf, rfeOf, rslcxOf};
 
 // Whether there is a context of that half to return to.
 pub enum Previous {
@@ -54,25 +55,14 @@ fn previous_context(word: u32, half: Half) -> Previous
     Previous::Traps(CTYP)
 }
 
-// Returns to the upper context, with the new PC.
-fn return_to(
-    base: u32,
-    window: &mut [u8],
-    d: &mut [u32; 16],
-    a: &mut [u32; 16],
-    core: &mut [u32; 10],
-    half: Half,
-    to: u32,
-) -> How
-    ensures { λ r. ⌜ did r (registers (now (d .exit)) (now (a .exit)) (now (core .exit))) (memory base (now (window .exit))) ≡ performOf (Return half (withPc to)) (registers (now (d .entry)) (now (a .entry)) (now (core .entry))) (memory base (now (window .entry))) ⌝ }
+// A return is done; PSW.PRS was `set` before it.
+fn return_done(set: usize, psw: u32) -> How
+    ensures { λ r. ⌜ r ≡ doneOf set psw ⌝ }
 {
-    match restore(base, window, d, a, core, half) {
-        Returned::Outside => How::Stopped(Stop::Outside),
-        Returned::Done => {
-            core[PC] = to;
-            How::Done
-        }
+    if fields::psw::protection_set(psw) == set {
+        return How::Done;
     }
+    How::Switched
 }
 
 pub fn ret(
@@ -82,7 +72,8 @@ pub fn ret(
     a: &mut [u32; 16],
     core: &mut [u32; 10],
 ) -> How
-    ensures { λ r. ⌜ did r (registers (now (d .exit)) (now (a .exit)) (now (core .exit))) (memory base (now (window .exit))) ≡ performOf (retOf (registers (now (d .entry)) (now (a .entry)) (now (core .entry)))) (registers (now (d .entry)) (now (a .entry)) (now (core .entry))) (memory base (now (window .entry))) ⌝ }
+    ensures { λ r. ⌜ did (plainly r) (registers (now (d .exit)) (now (a .exit)) (now (core .exit))) (memory base (now (window .exit))) ≡ performOf (retOf (registers (now (d .entry)) (now (a .entry)) (now (core .entry)))) (registers (now (d .entry)) (now (a .entry)) (now (core .entry))) (memory base (now (window .entry))) ⌝ }
+    ensures { λ r. ⌜ Keeps r (registers (now (d .entry)) (now (a .entry)) (now (core .entry))) (registers (now (d .exit)) (now (a .exit)) (now (core .exit))) ⌝ }
 {
     if underflows(core[PSW]) {
         return How::Trap(CDU);
@@ -91,7 +82,14 @@ pub fn ret(
         Previous::Traps(t) => How::Trap(t),
         Previous::There => {
             let to = new_pc(a[11]);
-            return_to(base, window, d, a, core, Half::Upper, to)
+            let set = fields::psw::protection_set(core[PSW]);
+            match restore(base, window, d, a, core, Half::Upper) {
+                Returned::Outside => How::Stopped(Stop::Outside),
+                Returned::Done => {
+                    core[PC] = to;
+                    return_done(set, core[PSW])
+                }
+            }
         }
     }
 }
@@ -103,7 +101,8 @@ pub fn rfe(
     a: &mut [u32; 16],
     core: &mut [u32; 10],
 ) -> How
-    ensures { λ r. ⌜ did r (registers (now (d .exit)) (now (a .exit)) (now (core .exit))) (memory base (now (window .exit))) ≡ performOf (rfeOf (registers (now (d .entry)) (now (a .entry)) (now (core .entry)))) (registers (now (d .entry)) (now (a .entry)) (now (core .entry))) (memory base (now (window .entry))) ⌝ }
+    ensures { λ r. ⌜ did (plainly r) (registers (now (d .exit)) (now (a .exit)) (now (core .exit))) (memory base (now (window .exit))) ≡ performOf (rfeOf (registers (now (d .entry)) (now (a .entry)) (now (core .entry)))) (registers (now (d .entry)) (now (a .entry)) (now (core .entry))) (memory base (now (window .entry))) ⌝ }
+    ensures { λ r. ⌜ Keeps r (registers (now (d .entry)) (now (a .entry)) (now (core .entry))) (registers (now (d .exit)) (now (a .exit)) (now (core .exit))) ⌝ }
 {
     match previous_context(core[PCXI], Half::Upper) {
         Previous::Traps(t) => How::Trap(t),
@@ -122,7 +121,7 @@ pub fn rfe(
                 Returned::Done => {
                     core[ICR] = icr;
                     core[PC] = to;
-                    How::Done
+                    How::Switched
                 }
             }
         }
@@ -137,10 +136,17 @@ pub fn rslcx(
     core: &mut [u32; 10],
     next: u32,
 ) -> How
-    ensures { λ r. ⌜ did r (registers (now (d .exit)) (now (a .exit)) (now (core .exit))) (memory base (now (window .exit))) ≡ performOf (rslcxOf next (registers (now (d .entry)) (now (a .entry)) (now (core .entry)))) (registers (now (d .entry)) (now (a .entry)) (now (core .entry))) (memory base (now (window .entry))) ⌝ }
+    ensures { λ r. ⌜ did (plainly r) (registers (now (d .exit)) (now (a .exit)) (now (core .exit))) (memory base (now (window .exit))) ≡ performOf (rslcxOf next (registers (now (d .entry)) (now (a .entry)) (now (core .entry)))) (registers (now (d .entry)) (now (a .entry)) (now (core .entry))) (memory base (now (window .entry))) ⌝ }
+    ensures { λ r. ⌜ Keeps r (registers (now (d .entry)) (now (a .entry)) (now (core .entry))) (registers (now (d .exit)) (now (a .exit)) (now (core .exit))) ⌝ }
 {
     match previous_context(core[PCXI], Half::Lower) {
         Previous::Traps(t) => How::Trap(t),
-        Previous::There => return_to(base, window, d, a, core, Half::Lower, next),
+        Previous::There => match restore(base, window, d, a, core, Half::Lower) {
+            Returned::Outside => How::Stopped(Stop::Outside),
+            Returned::Done => {
+                core[PC] = next;
+                How::Done
+            }
+        },
     }
 }

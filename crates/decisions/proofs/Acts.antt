@@ -21,22 +21,19 @@ use Rattle.operations.specs.declared.Context.the-variants.{Call, Calli, Ret, Rf
 use Rattle.image.specs.declared.fetch.Instruction.{Instruction}
 use Rattle.registers.specs.Registers.{A, pc, psw, pcxi, plusOf, even}
 use Rattle.registers.specs.declared.Registers.{Registers}
-use Rattle.protection.specs.Access.{checkOf}
 use Rattle.protection.specs.declared.range.Range.{Range}
 use Rattle.protection.specs.declared.range.Right.the-variants as right
-use Rattle.protection.specs.declared.access.Check.{Check}
-use Rattle.protection.specs.declared.access.Check.the-variants.{Passes, Fails}
 use Rattle.areas.specs.Link.{linkOf}
-use Rattle.areas.specs.Place.{placedAt}
-use Rattle.areas.specs.declared.link.Place.{Place}
-use Rattle.areas.specs.declared.link.Place.the-variants.{At, Outside}
-use Rattle.areas.proofs.Places.{place-found}
 use Rattle.contexts.specs.Context.{ulOf}
 use Rattle.contexts.specs.declared.context.Half.{Half}
 use Rattle.contexts.specs.declared.context.Half.the-variants.{Upper, Lower}
 use Rattle.acts.specs.Acts.{Act, Ends, Write, Save, Return}
 use Rattle.accesses.specs.Load.{addressIn}
-use Rattle.accesses.specs.Store.{sizeOf, fits, valueOf, storeBy, storeAtOf, storeChecked, storeOf}
+use Rattle.accesses.specs.Reach.{reachOf}
+use Rattle.accesses.specs.Store.{sizeOf, alignmentOf, valueOf, storeBy, storeOf}
+use Rattle.accesses.specs.declared.reach.Reach.{Reach}
+use Rattle.accesses.specs.declared.reach.Reach.the-variants as reach
+use Rattle.accesses.proofs.Reaches.{reach-inside}
 use Rattle.calls.specs.Saves.{callOf, svlcxOf, bisrOf}
 use Rattle.calls.specs.Returns.{isOf, previousOf, returning, retOf, rfeOf, rslcxOf}
 use Rattle.calls.specs.Instructions.{contextOp}
@@ -48,7 +45,7 @@ use Rattle.decisions.specs.Heads.{headsBy, writesHead}
 use Rattle.decisions.proofs.Setters.{even-word, even-even}
 use Rattle.decisions.proofs.Values.{Word, either-has, either-knows, plus-word}
 use Rattle.decisions.proofs.Sound.{Sound, EndsSound, TrapBytes, sound-start}
-use Rattle.decisions.proofs.Families.{Decoded, small, onward, integer-sound, move-sound, jump-sound, load-sound, CheckBytes, check-bytes}
+use Rattle.decisions.proofs.Families.{Decoded, small, onward, integer-sound, move-sound, jump-sound, load-sound, ReachBytes, reach-bytes}
 use Rattle.decisions.proofs.Systems.{system-sound}
 use Rattle.decisions.proofs.Thens.{Then, ReturnThen, called-then, pc-then, bisr-then, return-pc, return-rfe}
 
@@ -71,23 +68,13 @@ module _ (quiet : Type 0) {r : Registers} (w : Valid r) (i : Instruction) (o : D
   value-word StW = w .d .each (i .c)
   value-word StA = w .a .each (i .c)
 
-  placed-sound : (op : Store) (address : ℕ) (p : Place) → placedAt (m .base) (length (m .bytes)) (sizeOf op) (record { 0 = address }) ≡ p → ActSound quiet r m (storeBy op i r p)
-  placed-sound op address Outside e = (refl, small (omega arith) (omega arith))
-  placed-sound op address (At at) e = (onward quiet w {i = i} o (sound-start w), value-word op, place-found (m .base) (length (m .bytes)) (sizeOf op) (record { 0 = address }) at e .inside)
-
-  at-sound : (op : Store) (address : ℕ) → ActSound quiet r m (storeAtOf op i address r m)
-  unfolding storeAtOf
-  at-sound op address =
-      either-has (ActSound quiet r m) (not (fits op address)) (refl, small (omega arith) (omega arith))
-      (placed-sound op address (placedAt (m .base) (length (m .bytes)) (sizeOf op) (record { 0 = address })) refl)
-
-  checked-sound : (op : Store) (address : ℕ) (c : Check) → CheckBytes c → ActSound quiet r m (storeChecked op i address r m c)
-  checked-sound op address (Fails t) h = (refl, h)
-  checked-sound op address Passes h = at-sound op address
+  reached-sound : (rs : List Range) (op : Store) (p : Reach) → reachOf (m .base) (length (m .bytes)) (r .core) rs right.Write false (sizeOf op) (alignmentOf op) (addressIn i (r .a)) ≡ p → ReachBytes p → ActSound quiet r m (storeBy op i r p)
+  reached-sound rs op (reach.Traps t) e h = (refl, h)
+  reached-sound rs op (reach.At at) e h = (onward quiet w {i = i} o (sound-start w), value-word op, reach-inside _ _ _ _ _ _ _ _ _ at e)
 
   pub store-sound : (rs : List Range) (op : Store) → ActSound quiet r m (storeOf op i r rs m)
   unfolding storeOf
-  store-sound rs op = checked-sound op (addressIn i (r .a)) (checkOf (r .core) rs right.Write (addressIn i (r .a))) (check-bytes (r .core) rs right.Write (addressIn i (r .a)))
+  store-sound rs op = reached-sound rs op _ refl (reach-bytes (m .base) (length (m .bytes)) (r .core) rs right.Write false (sizeOf op) (alignmentOf op) (addressIn i (r .a)))
 
   -- saves
   call-sound : (to : ℕ) → Word to → ActSound quiet r m (callOf to (i .next) r)

@@ -19,8 +19,8 @@ use Rattle.protection.specs.declared.access.Check.{Check}
 use Rattle.protection.specs.declared.access.Check.the-variants.{Passes, Fails}
 use Rattle.interrupts.specs.Sources.{best, bestOf, bestBelow, betterOf, takes}
 use Rattle.interrupts.specs.declared.Best.{Best}
-use Rattle.image.specs.Table.{entriesOf, entryAt}
-use Rattle.image.specs.Fetch.{instructionAt, covers, fetchFrom, fetchOf}
+use Rattle.image.specs.Rest.{restOf}
+use Rattle.image.specs.Fetch.{instructionAt, fetchOf}
 use Rattle.image.specs.declared.fetch.Instruction.{Instruction}
 use Rattle.image.specs.declared.fetch.Fetched.{Fetched}
 use Rattle.image.specs.declared.fetch.Fetched.the-variants.{Found, Nothing}
@@ -61,6 +61,7 @@ module _ (next : ℕ) (r : Registers) (m : Memory) where
   ends-is quiet how.Done q s = refl
   ends-is quiet (how.Trap t) q s = rw (s .0)
   ends-is quiet (how.TrapAfter t) q s = rw (s .0)
+  ends-is quiet how.Switched q s = absurd s
   ends-is quiet how.Depleted q s = absurd s
   ends-is quiet (how.Stopped x) q s = absurd s
 
@@ -86,6 +87,7 @@ module _ (next : ℕ) (r : Registers) (m : Memory) where
   ends-decided quiet how.Done q p n s = s
   ends-decided quiet (how.Trap t) q p n s = (omega arith, trap-then t (pc r) (s .1) p)
   ends-decided quiet (how.TrapAfter t) q p n s = (omega arith, trap-then t next (s .1) n)
+  ends-decided quiet how.Switched q p n s = absurd s
   ends-decided quiet how.Depleted q p n s = absurd s
   ends-decided quiet (how.Stopped x) q p n s = absurd s
 
@@ -105,17 +107,9 @@ module _ {img : List ℕ} (b : Bytes img) (pc : ℕ) (e : pc % 2 ≡ 0) where
   unfolding instructionAt
   decoded-at at = record { imm = word-word b (at + 4); next = omega arith; even = omega arith }
 
-  decoded-from : (k i : ℕ) → DecodedBy (fetchFrom k img i pc)
-  unfolding fetchFrom
-  decoded-from zero i = tt
-  decoded-from (suc k) i =
-      either-has DecodedBy (covers (entryAt img i) pc)
-      (either-has DecodedBy (eqb ((pc - entryAt img i .load) % 4) 0) {x = Found (instructionAt img (entryAt img i .offset + (pc - entryAt img i .load) * 2) pc)} {y = Nothing} (decoded-at _) tt)
-      (decoded-from k (i + 1))
-
   pub fetch-decoded : DecodedBy (fetchOf img pc)
   unfolding fetchOf
-  fetch-decoded = decoded-from (entriesOf img) 0
+  fetch-decoded = either-has DecodedBy (eqb (restOf img pc .records) 0) {x = Nothing} {y = Found (instructionAt img (restOf img pc .at) pc)} tt (decoded-at _)
 
 -- a priority number is a byte
 best-byte : (n : ℕ) (xs : List ℕ) → bestBelow n xs .level < 2 ^ 8

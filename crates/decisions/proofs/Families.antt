@@ -6,6 +6,7 @@ use mathlib.Core.Path.{_≡_, refl}
 use mathlib.Core.Bool.{Bool, not, _||_}
 use mathlib.Core.List.{List}
 use lib.ListN.{length, getD}
+use lib.Dec.{eqb}
 use Rattle.memory.specs.Memory.{Memory}
 use Rattle.fields.specs.Psw.{PSW·PRS, isUser0}
 use Rattle.fields.specs.Syscon.{SYSCON·PROTEN}
@@ -32,10 +33,13 @@ use Rattle.protection.specs.declared.access.Check.{Check}
 use Rattle.protection.specs.declared.access.Check.the-variants.{Passes, Fails}
 use Rattle.areas.specs.Place.{placedAt}
 use Rattle.areas.specs.declared.link.Place.{Place}
-use Rattle.areas.specs.declared.link.Place.the-variants.{At, Outside}
+use Rattle.areas.specs.declared.link.Place.the-variants as place
 use Rattle.moves.specs.Moves.{integerOf, addressWrite, moveOf}
 use Rattle.jumps.specs.Jumps.{targetOf, branchOf, holds, compareOf, loopOf, jumpOf}
-use Rattle.accesses.specs.Load.{addressIn, loadGuards, fits, readOf, putOf, loadBy, loadAtOf, loadChecked, loadOf, sizeOf}
+use Rattle.accesses.specs.Reach.{placedReach, alignedReach, checkedReach, reachOf}
+use Rattle.accesses.specs.Load.{addressIn, loadGuards, readOf, putOf, loadBy, loadOf, sizeOf, alignmentOf}
+use Rattle.accesses.specs.declared.reach.Reach.{Reach}
+use Rattle.accesses.specs.declared.reach.Reach.the-variants.{At, Traps}
 use Rattle.decisions.specs.Valid.{Valid, Bytes}
 use Rattle.decisions.proofs.Setters.{even-word, even-even}
 use Rattle.decisions.proofs.Values.{Word, either-has, second-word, plus-word, minus-word, read-word}
@@ -133,6 +137,30 @@ unfolding checkOf
 check-bytes core rs right address =
     either-has CheckBytes (peripheral address) (either-has CheckBytes (isUser0 (getD core 1 0)) peripheral-bytes tt) (either-has CheckBytes (not (SYSCON·PROTEN (getD core 9 0)) || permitted rs (PSW·PRS (getD core 1 0)) right address) tt (denied-bytes right))
 
+-- and so are those of an access to data
+abbrev pub ReachBytes : Reach → Type 0
+ReachBytes (At at) = Unit {0}
+ReachBytes (Traps t) = TrapBytes t
+
+module _ (base len : ℕ) (core : List ℕ) (rs : List Range) (right : Right) (guarded : Bool) (size alignment address : ℕ) where
+  placed-bytes : (p : Place) → ReachBytes (placedReach p)
+  placed-bytes place.Outside = small (omega arith) (omega arith)
+  placed-bytes (place.At at) = tt
+
+  aligned-bytes : ReachBytes (alignedReach base len guarded size alignment address)
+  unfolding alignedReach
+  aligned-bytes =
+      either-has ReachBytes guarded (small (omega arith) (omega arith))
+      (either-has ReachBytes (eqb (address % alignment) 0) (placed-bytes (placedAt base len size (record { 0 = address }))) (small (omega arith) (omega arith)))
+
+  checked-bytes : (c : Check) → CheckBytes c → ReachBytes (checkedReach c (alignedReach base len guarded size alignment address))
+  checked-bytes (Fails t) h = h
+  checked-bytes Passes h = aligned-bytes
+
+  pub reach-bytes : ReachBytes (reachOf base len core rs right guarded size alignment address)
+  unfolding reachOf
+  reach-bytes = checked-bytes (checkOf core rs right address) (check-bytes core rs right address)
+
 module _ (quiet : Type 0) {r : Registers} (w : Valid r) (i : Instruction) (o : Decoded i) (m : Memory) (b : Bytes (m .bytes)) where
   put-sound : (op : Load) (v : ℕ) → Word v → Sound quiet r (putOf op (i .c) v r)
   put-sound LdB v h = sound-d (sound-start w) (i .c) v h
@@ -142,21 +170,14 @@ module _ (quiet : Type 0) {r : Registers} (w : Valid r) (i : Instruction) (o : D
   put-sound LdW v h = sound-d (sound-start w) (i .c) v h
   put-sound LdA v h = sound-a (sound-start w) (i .c) v h
 
-  placed-sound : (op : Load) (p : Place) → EndsSound quiet r (loadBy op i r m p)
-  placed-sound op Outside = (refl, small (omega arith) (omega arith))
-  placed-sound op (At at) = onward quiet w {i = i} o (put-sound op (readOf op (m .bytes) at) (read-word b op at))
-
-  at-sound : (op : Load) (address : ℕ) → EndsSound quiet r (loadAtOf op i address r m)
-  unfolding loadAtOf
-  at-sound op address =
-      either-has (EndsSound quiet r) (loadGuards op (psw r) (i .c)) (refl, small (omega arith) (omega arith))
-      (either-has (EndsSound quiet r) (not (fits op address)) (refl, small (omega arith) (omega arith))
-      (placed-sound op (placedAt (m .base) (length (m .bytes)) (sizeOf op) (record { 0 = address }))))
-
-  checked-sound : (op : Load) (address : ℕ) (c : Check) → CheckBytes c → EndsSound quiet r (loadChecked op i address r m c)
-  checked-sound op address (Fails t) h = (refl, h)
-  checked-sound op address Passes h = at-sound op address
+  reached-sound : (op : Load) (p : Reach) → ReachBytes p → EndsSound quiet r (loadBy op i r m p)
+  reached-sound op (Traps t) h = (refl, h)
+  reached-sound op (At at) h = onward quiet w {i = i} o (put-sound op (readOf op (m .bytes) at) (read-word b op at))
 
   pub load-sound : (rs : List Range) (op : Load) → EndsSound quiet r (loadOf op i r rs m)
   unfolding loadOf
-  load-sound rs op = checked-sound op (addressIn i (r .a)) (checkOf (r .core) rs right.Read (addressIn i (r .a))) (check-bytes (r .core) rs right.Read (addressIn i (r .a)))
+  load-sound rs op =
+      let g = loadGuards op (psw r) (i .c) in
+      let at = addressIn i (r .a) in
+      reached-sound op (reachOf (m .base) (length (m .bytes)) (r .core) rs right.Read g (sizeOf op) (alignmentOf op) at)
+      (reach-bytes (m .base) (length (m .bytes)) (r .core) rs right.Read g (sizeOf op) (alignmentOf op) at)

@@ -72,11 +72,12 @@ pub record TrapBytes (t : Trap) : Type 0 where
   pub class : t .class < 2 ^ 8
   pub tin : t .tin < 2 ^ 8
 
--- an instruction that neither saves nor returns: done, or trapped with the registers as they were
+-- an instruction that neither saves nor returns: done, or trapped with the registers as they were. No definition ends in Switched
 abbrev pub EndsBy : Type 0 → Registers → How → Registers → Type 0
 EndsBy quiet r how.Done q = Sound quiet r q
 EndsBy quiet r (how.Trap t) q = (q ≡ r) × TrapBytes t
 EndsBy quiet r (how.TrapAfter t) q = (q ≡ r) × TrapBytes t
+EndsBy quiet r how.Switched q = ⊥
 EndsBy quiet r how.Depleted q = ⊥
 EndsBy quiet r (how.Stopped s) q = ⊥
 

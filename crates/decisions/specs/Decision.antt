@@ -52,6 +52,7 @@ trapping t back = Save (event.Trap t) Upper 0 (trapEntry t back)
 -- no instruction that is not a save ends depleted, and none that is not a save or return stopped
 abbrev pub endingBy : ℕ → Registers → How → Registers → Decision
 endingBy next r how.Done q = Keep q
+endingBy next r how.Switched q = Keep q
 endingBy next r (how.Trap t) q = trapping t (pc r)
 endingBy next r (how.TrapAfter t) q = trapping t next
 endingBy next r how.Depleted q = Keep q

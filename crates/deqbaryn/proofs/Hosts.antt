@@ -1,7 +1,6 @@
 -- The calls of the host library from the machine's own: a record of another length, and one of 616 bytes.
 -- Assumes nothing.
-use Prim.Native.Nat.{ℕ, _<_}
-use native.Mathlib.Omega.{arith}
+use Prim.Native.Nat.{ℕ}
 use mathlib.Core.Path.{_≡_, ap, _∙_}
 use mathlib.Core.List.{List}
 use lib.ListN.{length}
@@ -10,35 +9,16 @@ use Rattle.memory.specs.Memory.{Memory}
 use Rattle.registers.specs.Registers.{pc, fcx, pcxi}
 use Rattle.registers.specs.declared.Registers.{Registers}
 use Rattle.protection.specs.declared.range.Range.{Range}
-use Rattle.events.specs.Events.{stopNumber}
-use Rattle.events.specs.declared.event.Stop.{Stop}
-use Rattle.events.specs.declared.event.Stop.the-variants.{NoArea, Outside}
-use Rattle.inputs.specs.Verdict.{numberOf}
 use Rattle.inputs.specs.Checks.{startVerdict}
-use Rattle.inputs.specs.declared.verdict.Refusal.{Refusal}
-use Rattle.inputs.specs.declared.verdict.Refusal.the-variants as refusal
 use Rattle.inputs.specs.declared.verdict.Verdict.{Verdict}
 use Rattle.machine.specs.Step.{stepped, stepOf}
 use Rattle.machine.specs.Run.{ran, runOf}
-use Rattle.machine.specs.Permits.{fetchOfStep, dataOfStep, PermitSays}
+use Rattle.permits.specs.Permits.{fetchOfStep, dataOfStep, PermitSays}
 use Rattle.machine.specs.declared.answer.Outcome.{Outcome}
-use Rattle.machine.specs.declared.answer.Permit.{Permit}
+use Rattle.permits.specs.declared.Permit.{Permit}
 use Rattle.records.specs.CoreRecord.{registersIn, requestsIn, rangesOf}
-use Rattle.deqbaryn.specs.Answers.{permitsNumber, outcomeAnswer, wrongLength, verdictAnswer}
+use Rattle.answers.specs.Answers.{permitsNumber, outcomeAnswer, wrongLength, verdictAnswer}
 use Rattle.deqbaryn.specs.Host.{startAnswer, left, stepStored, runStored, stepLeft, StepAnswer, StepAnswers, runLeft, runAnswer}
-
--- the numbers fit a byte
-pub number-small : (x : Refusal) → numberOf x < 256
-number-small refusal.Window = omega arith
-number-small (refusal.Table entry) = omega arith
-number-small (refusal.Record index) = omega arith
-number-small refusal.OddPc = omega arith
-number-small refusal.LinkOutside = omega arith
-number-small refusal.MetAgain = omega arith
-
-pub stop-small : (s : Stop) → stopNumber s < 256
-stop-small NoArea = omega arith
-stop-small Outside = omega arith
 
 module _ (bytes : List ℕ) (m : Memory) (img : List ℕ) where
   -- ---- a record of another length

@@ -11,12 +11,12 @@ use Rattle.registers.specs.declared.Registers.{Registers}
 use Rattle.inputs.specs.Checks.{startVerdict}
 use Rattle.machine.specs.Step.{StepOf, stepOf}
 use Rattle.machine.specs.Run.{RunOf, runOf}
-use Rattle.machine.specs.Permits.{fetchOfStep, dataOfStep, PermitSays}
+use Rattle.permits.specs.Permits.{fetchOfStep, dataOfStep, PermitSays}
 use Rattle.machine.specs.declared.answer.Outcome.{Outcome}
 use Rattle.machine.specs.declared.answer.Outcome.the-variants.{Made, Stopped, Refused}
-use Rattle.machine.specs.declared.answer.Permit.{Permit}
+use Rattle.permits.specs.declared.Permit.{Permit}
 use Rattle.records.specs.CoreRecord.{registersIn, requestsIn, rangesOf, storedIn}
-use Rattle.deqbaryn.specs.Answers.{permitsNumber, outcomeAnswer, wrongLength, verdictAnswer}
+use Rattle.answers.specs.Answers.{permitsNumber, outcomeAnswer, wrongLength, verdictAnswer}
 
 abbrev pub isRecord : List ℕ → Bool
 isRecord bytes = eqb (length bytes) 616

@@ -1,3 +1,2 @@
 -- The host library.
-pub mod Answers
 pub mod Host

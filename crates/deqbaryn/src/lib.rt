@@ -1,11 +1,9 @@
 // The host library: a start, a step and a run on a core record, a window and an image that the host lends. No pointer is kept.
 
-pub mod answers;
-
-use crate::answers::outcome_answer;
-use crate::answers::packed;
-use crate::answers::permits;
-use crate::answers::verdict_answer;
+use answers::outcome_answer;
+use answers::permits;
+use answers::verdict_answer;
+use answers::wrong_length;
 use areas::link::Address;
 use inputs::checks::try_start;
 use machine::answer::Outcome;
@@ -31,7 +29,7 @@ pub extern "C" fn deqbaryn_start(core: &[u8], base: u32, window: &[u8], image: &
     ensures unchanged { λ _. ⌜ (now (core .exit) ≡ now (core .entry)) × (now (window .exit) ≡ now (window .entry)) × (now (image .exit) ≡ now (image .entry)) ⌝ }
 {
     if core.len() != 616 {
-        return packed(5, 0, 0, 0, 0);
+        return wrong_length();
     }
     let r = read_registers(core);
     verdict_answer(try_start(
@@ -74,7 +72,7 @@ pub extern "C" fn deqbaryn_step(core: &mut [u8], base: u32, window: &mut [u8], i
     ensures { λ r. ⌜ StepAnswers (now (core .entry)) (memory base (now (window .entry))) (now (image .entry)) r ⌝ }
 {
     if core.len() != 616 {
-        return packed(5, 0, 0, 0, 0);
+        return wrong_length();
     }
     let r = read_registers(core);
     let xs = read_requests(core);
@@ -101,7 +99,7 @@ pub extern "C" fn deqbaryn_run(
     ensures { λ r. ⌜ r ≡ runAnswer n (now (core .entry)) (memory base (now (window .entry))) (now (image .entry)) ⌝ }
 {
     if core.len() != 616 {
-        return packed(5, 0, 0, 0, 0);
+        return wrong_length();
     }
     let r = read_registers(core);
     let xs = read_requests(core);

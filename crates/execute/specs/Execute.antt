@@ -1,13 +1,10 @@
 -- An instruction: its act, by document 01's operations in order, and the entry that may follow.
 use Prim.Native.Nat.{ℕ}
-use mathlib.Core.Path.{_≡_}
 use mathlib.Core.List.{List}
 use Rattle.memory.specs.Memory.{Memory}
 use Rattle.registers.specs.Registers.{pc, withPc}
 use Rattle.registers.specs.declared.Registers.{Registers}
-use Rattle.protection.specs.Access.{Notes}
 use Rattle.protection.specs.declared.range.Range.{Range}
-use Rattle.protection.specs.declared.range.Right.the-variants as right
 use Rattle.operations.specs.declared.Operation.{Operation}
 use Rattle.operations.specs.declared.Operation.the-variants.{Nop, Integer, Move, Load, Store, Jump, Context, System}
 use Rattle.image.specs.declared.fetch.Instruction.{Instruction}
@@ -20,7 +17,7 @@ use Rattle.acts.specs.declared.How.the-variants as how
 use Rattle.moves.specs.Moves.{integerOf, moveOf}
 use Rattle.jumps.specs.Jumps.{jumpOf}
 use Rattle.system.specs.Instructions.{systemOf}
-use Rattle.accesses.specs.Load.{addressIn, loadOf}
+use Rattle.accesses.specs.Load.{loadOf}
 use Rattle.accesses.specs.Store.{storeOf}
 use Rattle.calls.specs.Instructions.{contextOp}
 
@@ -38,23 +35,10 @@ actBy (System op) i r rs m = Ends (systemOf op i r)
 unfoldable pub actOf : Instruction → Registers → List Range → Memory → Act
 actOf i r rs m = actBy (i .op) i r rs m
 
--- the range that permits a data access, where protection asks: a load's or a store's at A[a] plus immediate
-abbrev pub DataNotesBy : Operation → Instruction → Registers → List Range → ℕ → ℕ → Type 0
-DataNotesBy Nop i r rs old new = new ≡ old
-DataNotesBy (Integer op) i r rs old new = new ≡ old
-DataNotesBy (Move op) i r rs old new = new ≡ old
-DataNotesBy (Load op) i r rs old new = Notes (r .core) rs right.Read (addressIn i (r .a)) old new
-DataNotesBy (Store op) i r rs old new = Notes (r .core) rs right.Write (addressIn i (r .a)) old new
-DataNotesBy (Jump op) i r rs old new = new ≡ old
-DataNotesBy (Context op) i r rs old new = new ≡ old
-DataNotesBy (System op) i r rs old new = new ≡ old
-
-abbrev pub DataNotes : Instruction → Registers → List Range → ℕ → ℕ → Type 0
-DataNotes i r rs old new = DataNotesBy (i .op) i r rs old new
-
 -- the trapping instruction is the return address, but the next one for SYSCALL, TRAPV, TRAPSV
 unfoldable pub finishOf : ℕ → How → Registers → Memory → MadeOf
 finishOf next how.Done r m = made (Made event.Instruction) r m
+finishOf next how.Switched r m = made (Made event.Instruction) r m
 finishOf next how.Depleted r m = fcdOf r m
 finishOf next (how.Trap t) r m = trapOf t (pc r) r m
 finishOf next (how.TrapAfter t) r m = trapOf t next r m

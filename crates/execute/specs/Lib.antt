@@ -1,2 +1,3 @@
 -- Instructions.
 pub mod Execute
+pub mod Executed

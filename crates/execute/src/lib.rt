@@ -23,9 +23,36 @@ ghost use Rattle.protection.specs.Range.{rangesIn};
 ghost use Rattle.image.specs.Fetch.{FieldsHold};
 ghost use Rattle.entries.specs.Entry.{made};
 ghost use Rattle.acts.specs.Acts.{did, performOf};
-ghost use Rattle.execute.specs.Execute.{actOf, DataNotes, finishOf, executeOf};
+ghost use Rattle.acts.specs.Steady.{plainly, Keeps};
+ghost use Rattle.execute.specs.Execute.{actOf, finishOf, executeOf};
+ghost use Rattle.execute.specs.Executed.{endingOf, isSteady, isDone, Kept};
 
-// Decides what an instruction does, and performs it. `permit` is the number of a range that permitted its data access, where protection asked.
+// An instruction that is done and leaves ICR, SYSCON and PSW.PRS as they are, or the ending of any other.
+pub enum Executed {
+    Steady,
+    Ended(Ending),
+}
+
+// The ending in either case.
+pub fn ending_of(x: Executed) -> Ending
+    ensures { λ r. ⌜ r ≡ endingOf x ⌝ }
+{
+    match x {
+        Executed::Steady => Ending::Made(Event::Instruction),
+        Executed::Ended(e) => e,
+    }
+}
+
+pub fn steady(x: Executed) -> bool
+    ensures { λ r. ⌜ r ≡ isSteady x ⌝ }
+{
+    match x {
+        Executed::Steady => true,
+        Executed::Ended(_) => false,
+    }
+}
+
+// Decides what an instruction does, and performs it.
 fn perform(
     base: u32,
     window: &mut [u8],
@@ -33,12 +60,11 @@ fn perform(
     a: &mut [u32; 16],
     core: &mut [u32; 10],
     ranges: &[u32; 96],
-    permit: &mut usize,
     i: Instruction,
 ) -> How
     requires { ⌜ FieldsHold i ⌝ }
-    ensures { λ r. ⌜ did r (registers (now (d .exit)) (now (a .exit)) (now (core .exit))) (memory base (now (window .exit))) ≡ performOf (actOf i (registers (now (d .entry)) (now (a .entry)) (now (core .entry))) (rangesIn (now (ranges .entry))) (memory base (now (window .entry)))) (registers (now (d .entry)) (now (a .entry)) (now (core .entry))) (memory base (now (window .entry))) ⌝ }
-    ensures { λ _. ⌜ DataNotes i (registers (now (d .entry)) (now (a .entry)) (now (core .entry))) (rangesIn (now (ranges .entry))) (now (permit .entry)) (now (permit .exit)) ⌝ }
+    ensures { λ r. ⌜ did (plainly r) (registers (now (d .exit)) (now (a .exit)) (now (core .exit))) (memory base (now (window .exit))) ≡ performOf (actOf i (registers (now (d .entry)) (now (a .entry)) (now (core .entry))) (rangesIn (now (ranges .entry))) (memory base (now (window .entry)))) (registers (now (d .entry)) (now (a .entry)) (now (core .entry))) (memory base (now (window .entry))) ⌝ }
+    ensures { λ r. ⌜ Keeps r (registers (now (d .entry)) (now (a .entry)) (now (core .entry))) (registers (now (d .exit)) (now (a .exit)) (now (core .exit))) ⌝ }
 {
     let op = i.op;
     match op {
@@ -51,8 +77,8 @@ fn perform(
             How::Done
         }
         Operation::Move(x) => execute_move(d, a, core, x, i),
-        Operation::Load(x) => execute_load(base, window, d, a, core, ranges, permit, x, i),
-        Operation::Store(x) => execute_store(base, window, d, a, core, ranges, permit, x, i),
+        Operation::Load(x) => execute_load(base, window, d, a, core, ranges, x, i),
+        Operation::Store(x) => execute_store(base, window, d, a, core, ranges, x, i),
         Operation::Jump(x) => execute_jump(d, a, core, x, i),
         Operation::Context(x) => execute_context(base, window, d, a, core, x, i),
         Operation::System(x) => execute_system(d, a, core, x, i),
@@ -69,10 +95,11 @@ fn finish(
     how: How,
     next: u32,
 ) -> Ending
-    ensures { λ r. ⌜ made r (registers (now (d .exit)) (now (a .exit)) (now (core .exit))) (memory base (now (window .exit))) ≡ finishOf next how (registers (now (d .entry)) (now (a .entry)) (now (core .entry))) (memory base (now (window .entry))) ⌝ }
+    ensures { λ r. ⌜ made r (registers (now (d .exit)) (now (a .exit)) (now (core .exit))) (memory base (now (window .exit))) ≡ finishOf next (plainly how) (registers (now (d .entry)) (now (a .entry)) (now (core .entry))) (memory base (now (window .entry))) ⌝ }
 {
     match how {
         How::Done => Ending::Made(Event::Instruction),
+        How::Switched => Ending::Made(Event::Instruction),
         How::Depleted => passed_on(enter_fcd(base, window, d, a, core)),
         How::Trap(t) => {
             let pc = core[PC];
@@ -80,6 +107,20 @@ fn finish(
         }
         How::TrapAfter(t) => passed_on(trap(base, window, d, a, core, t, next)),
         How::Stopped(s) => Ending::Stopped(s),
+    }
+}
+
+// Done, and nothing else.
+fn is_done(how: How) -> bool
+    ensures { λ r. ⌜ r ≡ isDone how ⌝ }
+{
+    match how {
+        How::Done => true,
+        How::Switched => false,
+        How::Depleted => false,
+        How::Trap(_) => false,
+        How::TrapAfter(_) => false,
+        How::Stopped(_) => false,
     }
 }
 
@@ -91,13 +132,15 @@ pub fn execute_instruction(
     a: &mut [u32; 16],
     core: &mut [u32; 10],
     ranges: &[u32; 96],
-    permit: &mut usize,
     i: Instruction,
-) -> Ending
+) -> Executed
     requires { ⌜ FieldsHold i ⌝ }
-    ensures { λ r. ⌜ made r (registers (now (d .exit)) (now (a .exit)) (now (core .exit))) (memory base (now (window .exit))) ≡ executeOf i (registers (now (d .entry)) (now (a .entry)) (now (core .entry))) (rangesIn (now (ranges .entry))) (memory base (now (window .entry))) ⌝ }
-    ensures { λ _. ⌜ DataNotes i (registers (now (d .entry)) (now (a .entry)) (now (core .entry))) (rangesIn (now (ranges .entry))) (now (permit .entry)) (now (permit .exit)) ⌝ }
+    ensures { λ r. ⌜ made (endingOf r) (registers (now (d .exit)) (now (a .exit)) (now (core .exit))) (memory base (now (window .exit))) ≡ executeOf i (registers (now (d .entry)) (now (a .entry)) (now (core .entry))) (rangesIn (now (ranges .entry))) (memory base (now (window .entry))) ⌝ }
+    ensures { λ r. ⌜ Kept r (registers (now (d .entry)) (now (a .entry)) (now (core .entry))) (registers (now (d .exit)) (now (a .exit)) (now (core .exit))) ⌝ }
 {
-    let how = perform(base, window, d, a, core, ranges, permit, i);
-    finish(base, window, d, a, core, how, i.next)
+    let how = perform(base, window, d, a, core, ranges, i);
+    if is_done(how) {
+        return Executed::Steady;
+    }
+    Executed::Ended(finish(base, window, d, a, core, how, i.next))
 }

@@ -1,3 +1,4 @@
 -- Laws that the proofs of several functions cite.
 pub mod Flags
 pub mod Counters
+pub mod RangeSets

@@ -2,4 +2,6 @@
 pub mod Tests
 pub mod Tables
 pub mod Images
+pub mod Indices
+pub mod Rests
 pub mod Fetches

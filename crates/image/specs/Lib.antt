@@ -2,4 +2,5 @@
 pub mod Table
 pub mod Records
 pub mod Rules
+pub mod Rest
 pub mod Fetch

@@ -1,15 +1,15 @@
-// The record that begins at a PC, decoded.
+// The record that begins at a PC, decoded, and those that follow it in its body.
 
-use crate::table::Entry;
 use crate::table::read_entry;
 use memory::word_at;
 use operations::Operation;
 use operations::decode;
 ghost use mathlib.Core.Path.{_≡_};
-ghost use Prim.Native.Nat.{_+_, _*_, _^_, _≤_, _<_};
+ghost use Prim.Native.Nat.{_+_, _≤_};
 ghost use lib.ListN.{length};
 ghost use Rattle.image.specs.Records.{ImageHolds};
-ghost use Rattle.image.specs.Fetch.{instructionAt, covers, fetchOf, Bounded, FetchSays};
+ghost use Rattle.image.specs.Rest.{indexOf, IndexSays, restOf};
+ghost use Rattle.image.specs.Fetch.{instructionAt, fetchOf, Bounded, FetchSays};
 
 // An instruction with its fields, and the address after it.
 pub struct Instruction {
@@ -26,8 +26,14 @@ pub enum Fetched {
     Nothing,
 }
 
+// The records of a body from one on: how many they are, and the byte of the image at which the first one stands.
+pub struct Rest {
+    pub records: u32,
+    pub at: usize,
+}
+
 // The record at byte `at` of the image, which begins at pc.
-fn read_record(image: &[u8], at: usize, pc: u32) -> Instruction
+pub fn read_record(image: &[u8], at: usize, pc: u32) -> Instruction
     requires { ⌜ at + 8 ≤ length (now image) ⌝ }
     ensures { λ r. ⌜ r ≡ instructionAt (now (image .entry)) at pc ⌝ }
 {
@@ -47,32 +53,44 @@ fn wide(b: u8) -> usize
     b as usize
 }
 
-// Whether pc lies in the entry's code range. From a pc below the load address the distance wraps, past every range's end.
-fn in_range(e: Entry, pc: u32) -> bool
-    requires { ⌜ e .load + 4 * e .records ≤ 2 ^ 32 ⌝ }
-    ensures { λ r. ⌜ r ≡ covers e pc ⌝ }
+// How many records pc stands after the one at `from`. Where pc lies below it, or within a record, the answer is past every body: the distance wraps, and its two low bits count highest.
+pub fn index_from(from: u32, pc: u32) -> u32
+    ensures { λ r. ⌜ (r ≡ indexOf from pc) × IndexSays from pc r ⌝ }
 {
-    std::num::wrapping_sub_u32(pc, e.load) / 4 < e.records
+    let far = std::num::wrapping_sub_u32(pc, from);
+    far / 4 + far % 4 * 0x4000_0000
 }
 
-// The record that begins at pc, of an image that rules 2 and 3 accept. The count is read only where the first entry does not cover pc.
-pub fn fetch(image: &[u8], pc: u32) -> Fetched
+// The records of a body from pc on, of an image that rules 2 and 3 accept. The count of entries is read only where the first one has none.
+pub fn rest_at(image: &[u8], pc: u32) -> Rest
     requires { ⌜ ImageHolds (now image) ⌝ }
-    ensures { λ r. ⌜ (r ≡ fetchOf (now (image .entry)) pc) × Bounded r × FetchSays (now (image .entry)) pc r ⌝ }
+    ensures { λ r. ⌜ r ≡ restOf (now (image .entry)) pc ⌝ }
 {
     let mut i: u32 = 0;
     loop {
         let e = read_entry(image, i as usize);
-        if in_range(e, pc) {
-            let far = pc - e.load;
-            if far % 4 == 0 {
-                return Fetched::Found(read_record(image, e.offset as usize + far as usize * 2, pc));
-            }
-            return Fetched::Nothing;
+        let k = index_from(e.load, pc);
+        if k < e.records {
+            return Rest {
+                records: e.records - k,
+                at: e.offset as usize + 8 * k as usize,
+            };
         }
         i += 1;
         if i == word_at(image, 0) {
-            return Fetched::Nothing;
+            return Rest { records: 0, at: 0 };
         }
     }
+}
+
+// The record that begins at pc, of an image that rules 2 and 3 accept.
+pub fn fetch(image: &[u8], pc: u32) -> Fetched
+    requires { ⌜ ImageHolds (now image) ⌝ }
+    ensures { λ r. ⌜ (r ≡ fetchOf (now (image .entry)) pc) × Bounded r × FetchSays (now (image .entry)) pc r ⌝ }
+{
+    let rest = rest_at(image, pc);
+    if rest.records == 0 {
+        return Fetched::Nothing;
+    }
+    Fetched::Found(read_record(image, rest.at, pc))
 }

@@ -26,8 +26,8 @@ fn better(b: Best, i: u8, src: u32) -> Best
 }
 
 // The best of the sixteen sources.
-pub fn best_source(sources: [u32; 16]) -> Best
-    ensures { λ r. ⌜ (r ≡ bestOf sources) × Highest sources r ⌝ }
+pub fn best_source(sources: &[u32; 16]) -> Best
+    ensures { λ r. ⌜ (r ≡ bestOf (now (sources .entry))) × Highest (now (sources .entry)) r ⌝ }
 {
     let mut b = Best {
         source: 16,
@@ -51,15 +51,13 @@ pub fn taken(icr: u32, level: u8) -> bool
     false
 }
 
-// The sources with the request of one cleared.
-pub fn cleared(sources: [u32; 16], source: u8) -> [u32; 16]
-    ensures { λ r. ⌜ r ≡ clearedAt sources source ⌝ }
+// Clears the request of one source.
+pub fn clear(sources: &mut [u32; 16], source: u8)
+    ensures { λ _. ⌜ now (sources .exit) ≡ clearedAt (now (sources .entry)) source ⌝ }
 {
-    let mut xs = sources;
     let i = source as usize;
-    if i < 16 {
-        xs[i] = fields::request::cleared(xs[i]);
-        return xs;
+    if 16 <= i {
+        return;
     }
-    xs
+    sources[i] = fields::request::cleared(sources[i]);
 }

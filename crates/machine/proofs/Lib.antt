@@ -1,4 +1,5 @@
 -- Laws of the run.
 pub mod Turns
-pub mod Permitting
+pub mod Walks
+pub mod Loops
 pub mod Singles

@@ -1,26 +1,21 @@
--- The turns of the inner loop: a step made, a stop, the end; and what is noted of the first step.
+-- A run step by step: a step made, a stop, the end.
 -- Assumes nothing.
-use Prim.Native.Nat.{ℕ, suc, _+_, _-_, _%_, _≤_, _<_}
+use Prim.Native.Nat.{ℕ, zero, suc, _+_, _%_, _<_}
 use native.Mathlib.Omega.{arith}
-use native.Mathlib.Nat.{sub-zero}
-use mathlib.Core.Path.{_≡_, refl, sym, ap, subst, _∙_}
-use mathlib.Core.Bool.{Bool, true, false}
+use mathlib.Core.Path.{_≡_, refl, sym, subst, _∙_}
+use mathlib.Core.Bool.{true, false}
 use mathlib.Core.List.{List}
-use mathlib.Core.Logic.{_⊎_, inl, inr, ⊎-elim}
 use lib.ListN.{length}
-use Rattle.words.proofs.Truth.{never as never-true}
-use Rattle.memory.specs.Memory.{Memory, memory}
+use Rattle.memory.specs.Memory.{Memory}
 use Rattle.fields.specs.Icr.{ICR·IE}
 use Rattle.registers.specs.Registers.{pc, icr}
 use Rattle.registers.specs.declared.Registers.{Registers}
 use Rattle.events.specs.declared.event.Event.{Event}
-use Rattle.events.specs.declared.event.Event.the-variants as event
 use Rattle.events.specs.declared.event.Stop.{Stop}
 use Rattle.events.specs.declared.event.Ending.the-variants as ending
 use Rattle.protection.specs.declared.range.Range.{Range}
 use Rattle.interrupts.specs.Sources.{bestOf, takes, clearedAt}
-use Rattle.interrupts.specs.declared.Best.{Best}
-use Rattle.entries.specs.Entry.{MadeOf, made}
+use Rattle.entries.specs.Entry.{MadeOf}
 use Rattle.image.specs.Records.{imageOf, ImageHolds}
 use Rattle.image.specs.declared.records.ImageCheck.{ImageCheck}
 use Rattle.image.specs.declared.records.ImageCheck.the-variants as image
@@ -29,12 +24,12 @@ use Rattle.inputs.proofs.Verdicts.{step-says}
 use Rattle.inputs.specs.declared.verdict.Refusal.{Refusal}
 use Rattle.inputs.specs.declared.verdict.Verdict.{Verdict}
 use Rattle.inputs.specs.declared.verdict.Verdict.the-variants.{Accepted, Refused}
-use Rattle.decisions.specs.Phases.{oneOf, requestsOf}
+use Rattle.decisions.specs.Phases.{oneOf, instructionOf, interrupted, requestsOf}
 use Rattle.decisions.proofs.Steps.{Kept, one-kept}
 use Rattle.machine.specs.Step.{acceptedOf, stepOf}
 use Rattle.machine.specs.Run.{ran, runFrom}
-use Rattle.machine.specs.Permits.{FetchNotes, AccessNotes}
-use Rattle.machine.specs.Inner.{Foremost, oneBy, Ready, FirstNotes}
+use Rattle.machine.specs.Inner.{Ready}
+use Rattle.machine.specs.declared.answer.Outcome.{Outcome}
 use Rattle.machine.specs.declared.answer.Outcome.the-variants.{Made, Stopped}
 
 -- ---- a step of an accepted machine
@@ -66,114 +61,47 @@ module _ {img : List ℕ} {r : Registers} {m : Memory} (y : Ready img r m) (xs :
   step-stopped : (s : Stop) → v .ending ≡ ending.Stopped s → stepOf img r xs rs m ≡ record { outcome = Stopped s; registers = v .registers; requests = xs; memory = v .memory }
   step-stopped s h = accepted-step img r xs rs m (y .accepted) ∙ rw (← is, h, kept .leaves s h .0, kept .leaves s h .1)
 
-  pub run-made : (n k : ℕ) (last e : Event) → k < n → v .ending ≡ ending.Made e
-      → runFrom (n - (k + 1)) img rs (Made e) (k + 1) (v .registers) (requestsOf r xs) (v .memory) ≡ runFrom (n - k) img rs (Made last) k r xs m
+  pub run-made : (left made : ℕ) (last : Outcome) (e : Event) → v .ending ≡ ending.Made e
+      → runFrom left img rs (Made e) (made + 1) (v .registers) (requestsOf r xs) (v .memory) ≡ runFrom (suc left) img rs last made r xs m
   unfolding runFrom
-  run-made n k last e h g = let j : n - k ≡ suc (n - (k + 1)) = omega arith in rw (j, step-made e g)
+  run-made left made last e g = rw (step-made e g)
 
-  pub run-stopped : (n k : ℕ) (last : Event) (s : Stop) → k < n → v .ending ≡ ending.Stopped s
-      → ran (Stopped s) k (v .registers) xs (v .memory) ≡ runFrom (n - k) img rs (Made last) k r xs m
+  pub run-stopped : (left made : ℕ) (last : Outcome) (s : Stop) → v .ending ≡ ending.Stopped s → ran (Stopped s) made (v .registers) xs (v .memory) ≡ runFrom (suc left) img rs last made r xs m
   unfolding runFrom
-  run-stopped n k last s h g = let j : n - k ≡ suc (n - (k + 1)) = omega arith in rw (j, step-stopped s g)
+  run-stopped left made last s g = rw (step-stopped s g)
 
-pub run-end : (n k : ℕ) (img : List ℕ) (rs : List Range) (last : Event) (r : Registers) (xs : List ℕ) (m : Memory) → k ≤ n → n ≤ k
-    → ran (Made last) k r xs m ≡ runFrom (n - k) img rs (Made last) k r xs m
+pub run-end : (img : List ℕ) (rs : List Range) (last : Outcome) (made : ℕ) (r : Registers) (xs : List ℕ) (m : Memory) → ran last made r xs m ≡ runFrom 0 img rs last made r xs m
 unfolding runFrom
-run-end n k img rs last r xs m p q = let j : n - k ≡ 0 = omega arith in rw j
+run-end img rs last made r xs m = refl
+
+-- before a step the last outcome does not matter
+pub run-last : (left : ℕ) (img : List ℕ) (rs : List Range) (x y : Outcome) (made : ℕ) (r : Registers) (xs : List ℕ) (m : Memory) → 0 < left → runFrom left img rs x made r xs m ≡ runFrom left img rs y made r xs m
+unfolding runFrom
+run-last zero img rs x y made r xs m h = absurd (omega arith)
+run-last (suc left) img rs x y made r xs m h = refl
 
 -- with IE 0 no source is taken
-off : (icr level : ℕ) → ICR·IE icr ≡ false → takes icr level ≡ false
+pub off : (icr level : ℕ) → ICR·IE icr ≡ false → takes icr level ≡ false
 unfolding takes
 off icr level e = rw e
 
--- ---- the loop's invariant, from the run that is to be made: n steps from r₀, xs₀ and m₀
-module _ (n : ℕ) (img : List ℕ) (rs : List Range) (r₀ : Registers) (xs₀ : List ℕ) (m₀ : Memory) where
-  pub record Turn (k : ℕ) (last : Event) (r : Registers) (xs : List ℕ) (m : Memory) (best : Best) (fetched accessed : ℕ) : Type 0 where
-    pub ready : Ready img r m
-    pub best-is : (best ≡ bestOf xs) ⊎ ((n ≡ 1) × (k ≡ 0 → ICR·IE (icr r) ≡ false))
-    pub run : runFrom (n - k) img rs (Made last) k r xs m ≡ runFrom n img rs (Made event.Instruction) 0 r₀ xs₀ m₀
-    -- before the first step nothing is noted
-    pub first : k ≡ 0 → (r ≡ r₀) × (xs ≡ xs₀) × (fetched ≡ 32) × (accessed ≡ 32)
-    pub noted : n ≡ 1 → k ≡ 1 → FirstNotes img r₀ xs₀ rs fetched accessed
+-- ---- a step without an interrupt, and one with it
+module _ (img : List ℕ) (r : Registers) (xs : List ℕ) (rs : List Range) (m : Memory) where
+  pub quiet-one : takes (icr r) (bestOf xs .level) ≡ false → instructionOf img r rs m ≡ oneOf img r xs rs m
+  unfolding oneOf
+  quiet-one e = rw e
 
-  pub turn-start : (best : Best) → Ready img r₀ m₀ → Foremost n (icr r₀) xs₀ best → Turn 0 event.Instruction r₀ xs₀ m₀ best 32 32
-  turn-start best y b =
-      record {
-        ready = y;
-        best-is = ⊎-elim inl (λ w. inr (w .0, λ e. w .1)) b;
-        run = rw sub-zero;
-        first = λ e. (refl, refl, refl, refl);
-        noted = λ e f. absurd (omega arith);
-      }
+  pub quiet-requests : takes (icr r) (bestOf xs .level) ≡ false → requestsOf r xs ≡ xs
+  unfolding requestsOf
+  quiet-requests e = rw e
 
-  module _ {k : ℕ} {last : Event} {r : Registers} {xs : List ℕ} {m : Memory} {best : Best} {fetched accessed : ℕ} (t : Turn k last r xs m best fetched accessed)
-      {interrupts : Bool} (i : interrupts ≡ takes (icr r) (best .level)) {v : MadeOf} (one : v ≡ oneBy interrupts best img r rs m)
-      (fetched′ accessed′ : ℕ) (f : FetchNotes interrupts r rs fetched fetched′) (a : AccessNotes interrupts img r rs accessed accessed′) where
-    is-taken : k < n → interrupts ≡ takes (icr r) (bestOf xs .level)
-    is-taken h =
-        i ∙ ⊎-elim
-        (λ e. ap (λ (b : Best). takes (icr r) (b .level)) e)
-        (λ w. let q : ICR·IE (icr r) ≡ false = w .1 (omega (arith, w .0)) in off (icr r) (best .level) q ∙ sym (off (icr r) (bestOf xs .level) q))
-        (t .best-is)
+  pub taken-one : takes (icr r) (bestOf xs .level) ≡ true → interrupted (bestOf xs) r m ≡ oneOf img r xs rs m
+  unfolding oneOf
+  taken-one e = rw e
 
-    -- where one is taken, it is the best one
-    is-best : k < n → interrupts ≡ true → best ≡ bestOf xs
-    is-best h p =
-        ⊎-elim
-        (λ e. e)
-        (λ w. let q : ICR·IE (icr r) ≡ false = w .1 (omega (arith, w .0)) in absurd (never-true (sym p ∙ i ∙ off (icr r) (best .level) q)))
-        (t .best-is)
-
-    is-one : k < n → v ≡ oneOf img r xs rs m
-    unfolding oneOf
-    is-one h = one ∙ go interrupts (is-taken h) (is-best h)
-      where
-        go : (b : Bool) → b ≡ takes (icr r) (bestOf xs .level) → (b ≡ true → best ≡ bestOf xs) → oneBy b best img r rs m ≡ oneOf img r xs rs m
-        go true e f = rw (← e, f refl)
-        go false e f = rw (← e)
-
-    notes : k < n → k ≡ 0 → FirstNotes img r₀ xs₀ rs fetched′ accessed′
-    notes h e =
-        let s = t .first e in
-        let p : FirstNotes img r xs rs fetched′ accessed′ =
-        record {
-          fetch = subst (λ (b : Bool). FetchNotes b r rs 32 fetched′) (is-taken h) (rw (s .2) at f);
-          data-access = subst (λ (b : Bool). AccessNotes b img r rs 32 accessed′) (is-taken h) (rw (s .3) at a);
-        } in
-        rw (s .0, s .1) at p
-
-    next : (e : Event) → k < n → v .ending ≡ ending.Made e → (best′ : Best) (ys : List ℕ) → ys ≡ requestsOf r xs → (best′ ≡ bestOf ys) ⊎ (n ≡ 1)
-        → Turn (k + 1) e (v .registers) ys (v .memory) best′ fetched′ accessed′
-    next e h g best′ ys y b =
-        record {
-          ready = ready-next (t .ready) xs rs v (is-one h);
-          best-is = ⊎-elim inl (λ w. inr (w, λ z. absurd (omega arith))) b;
-          run = rw y (run-made (t .ready) xs rs v (is-one h) n k last e h g) ∙ t .run;
-          first = λ z. absurd (omega arith);
-          noted = λ z z′. notes h (omega arith);
-        }
-
-    -- an instruction, and an interrupt
-    pub turn-plain : (e : Event) → k < n → v .ending ≡ ending.Made e → interrupts ≡ false → Turn (k + 1) e (v .registers) xs (v .memory) best fetched′ accessed′
-    unfolding requestsOf
-    turn-plain e h g p = next e h g best xs (let q : takes (icr r) (bestOf xs .level) ≡ false = sym (is-taken h) ∙ p in rw q) (⊎-elim inl (λ w. inr (w .0)) (t .best-is))
-
-    pub turn-interrupt : (e : Event) → k < n → v .ending ≡ ending.Made e → interrupts ≡ true → (best′ : Best) (ys : List ℕ) → ys ≡ clearedAt xs (best .source) → best′ ≡ bestOf ys
-        → Turn (k + 1) e (v .registers) ys (v .memory) best′ fetched′ accessed′
-    unfolding requestsOf
-    turn-interrupt e h g p best′ ys y b =
-        next e h g best′ ys (y ∙ (let q : takes (icr r) (bestOf xs .level) ≡ true = sym (is-taken h) ∙ p in rw (q, is-best h p))) (inl b)
-
-    pub turn-stop : (s : Stop) → k < n → v .ending ≡ ending.Stopped s → ran (Stopped s) k (v .registers) xs (v .memory) ≡ runFrom n img rs (Made event.Instruction) 0 r₀ xs₀ m₀
-    turn-stop s h g = run-stopped (t .ready) xs rs v (is-one h) n k last s h g ∙ t .run
-
-    pub stop-notes : k < n → n ≡ 1 → FirstNotes img r₀ xs₀ rs fetched′ accessed′
-    stop-notes h e = notes h (omega arith)
-
-  pub turn-end : (k : ℕ) (last : Event) (r : Registers) (xs : List ℕ) (m : Memory) (best : Best) (fetched accessed : ℕ) → Turn k last r xs m best fetched accessed → k ≡ n
-      → ran (Made last) n r xs m ≡ runFrom n img rs (Made event.Instruction) 0 r₀ xs₀ m₀
-  turn-end k last r xs m best fetched accessed t e =
-      subst (λ (j : ℕ). ran (Made last) j r xs m ≡ runFrom n img rs (Made event.Instruction) 0 r₀ xs₀ m₀) e (run-end n k img rs last r xs m (omega arith) (omega arith) ∙ t .run)
+  pub taken-requests : takes (icr r) (bestOf xs .level) ≡ true → clearedAt xs (bestOf xs .source) ≡ requestsOf r xs
+  unfolding requestsOf
+  taken-requests e = rw e
 
 -- an accepted image holds
 never : {x : Refusal} → Refused x ≡ Accepted → ⊥

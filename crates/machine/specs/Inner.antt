@@ -1,30 +1,29 @@
 -- What the inner loop works with: an accepted machine whose values are those that the code can hold.
-use Prim.Native.Nat.{ℕ}
+use Prim.Native.Nat.{ℕ, _+_, _-_, _≤_, _<_}
 use mathlib.Core.Path.{_≡_}
-use mathlib.Core.Bool.{Bool, false, cond}
+use mathlib.Core.Bool.{false}
 use mathlib.Core.List.{List}
 use mathlib.Core.Logic.{_⊎_}
 use Rattle.memory.specs.Memory.{Memory}
 use Rattle.fields.specs.Icr.{ICR·IE}
 use Rattle.registers.specs.Registers.{pc, icr}
 use Rattle.registers.specs.declared.Registers.{Registers}
+use Rattle.events.specs.declared.event.Event.{Event}
+use Rattle.events.specs.declared.event.Ending.{Ending}
+use Rattle.events.specs.declared.event.Ending.the-variants as ending
 use Rattle.protection.specs.declared.range.Range.{Range}
 use Rattle.interrupts.specs.Sources.{bestOf, takes}
 use Rattle.interrupts.specs.declared.Best.{Best}
-use Rattle.entries.specs.Entry.{MadeOf}
 use Rattle.inputs.specs.Checks.{stepVerdict}
 use Rattle.inputs.specs.declared.verdict.Verdict.the-variants.{Accepted}
 use Rattle.decisions.specs.Valid.{Valid, Bytes}
-use Rattle.decisions.specs.Phases.{interrupted, instructionOf}
-use Rattle.machine.specs.Permits.{FetchNotes, AccessNotes}
+use Rattle.machine.specs.Run.{RunOf, ran, runFrom}
+use Rattle.machine.specs.declared.answer.Outcome.the-variants as outcome
+use Rattle.machine.specs.declared.run_steps.Paced.{Paced}
 
 -- the best source, for n steps from that ICR on: any will do for a single step that takes none
 abbrev pub Foremost : ℕ → ℕ → List ℕ → Best → Type 0
 Foremost n icr xs best = (best ≡ bestOf xs) ⊎ ((n ≡ 1) × (ICR·IE icr ≡ false))
-
--- one step, where it is known whether the best source is taken
-abbrev pub oneBy : Bool → Best → List ℕ → Registers → List Range → Memory → MadeOf
-oneBy interrupts best img r rs m = cond interrupts (interrupted best r m) (instructionOf img r rs m)
 
 pub record Ready (img : List ℕ) (r : Registers) (m : Memory) : Type 0 where
   pub accepted : stepVerdict m img (pc r) ≡ Accepted
@@ -32,7 +31,23 @@ pub record Ready (img : List ℕ) (r : Registers) (m : Memory) : Type 0 where
   pub valid : Valid r
   pub bytes : Bytes (m .bytes)
 
--- the notes of the first step: 32 where there is none
-pub record FirstNotes (img : List ℕ) (r : Registers) (xs : List ℕ) (rs : List Range) (fetched accessed : ℕ) : Type 0 where
-  pub fetch : FetchNotes (takes (icr r) (bestOf xs .level)) r rs 32 fetched
-  pub data-access : AccessNotes (takes (icr r) (bestOf xs .level)) img r rs 32 accessed
+abbrev pub paced : Ending → ℕ → Paced
+paced e left = record { ending = e; left = left }
+
+-- one step of n that ended so: a stop is no step made
+abbrev pub pacedAfter : Ending → ℕ → Paced
+pacedAfter (ending.Made e) n = paced (ending.Made e) (n - 1)
+pacedAfter (ending.Stopped s) n = paced (ending.Stopped s) n
+
+-- what is left of a run after some steps of which the last ended so
+abbrev pub leftBy : Ending → ℕ → List ℕ → List Range → ℕ → Registers → List ℕ → Memory → RunOf
+leftBy (ending.Made e) left img rs made r xs m = runFrom left img rs (outcome.Made e) made r xs m
+leftBy (ending.Stopped s) left img rs made r xs m = ran (outcome.Stopped s) made r xs m
+
+-- some steps of n from (r, m) on lead to (q, w), with requests of which none is taken before the first: at least one, unless it stops
+pub record Paces (n : ℕ) (img : List ℕ) (rs : List Range) (r : Registers) (m : Memory) (p : Paced) (q : Registers) (w : Memory) : Type 0 where
+  pub most : p .left ≤ n
+  pub some : (e : Event) → p .ending ≡ ending.Made e → p .left < n
+  pub ready : (xs : List ℕ) → takes (icr r) (bestOf xs .level) ≡ false → Ready img q w
+  pub run : (xs : List ℕ) → takes (icr r) (bestOf xs .level) ≡ false → (last : Event) (made : ℕ)
+      → leftBy (p .ending) (p .left) img rs (made + (n - p .left)) q xs w ≡ runFrom n img rs (outcome.Made last) made r xs m

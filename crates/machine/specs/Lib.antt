@@ -1,5 +1,4 @@
 -- A step and a run.
 pub mod Step
 pub mod Run
-pub mod Permits
 pub mod Inner

@@ -4,22 +4,16 @@ use events::event::Ending;
 use events::event::Event;
 use events::event::Stop;
 use inputs::verdict::Refusal;
+use permits::Permit;
 use registers::Registers;
 ghost use mathlib.Core.Path.{_≡_};
 ghost use Rattle.machine.specs.Step.{outcomeOf};
-ghost use Rattle.machine.specs.Permits.{permitOf};
 
 // A step's event, or why it was not made. Of a run: its last step's.
 pub enum Outcome {
     Made(Event),
     Stopped(Stop),
     Refused(Refusal),
-}
-
-// The range that permitted an access, by its number, where protection asked and one did.
-pub enum Permit {
-    Unasked,
-    By(usize),
 }
 
 pub struct Stepped {
@@ -45,14 +39,4 @@ pub fn outcome_of(e: Ending) -> Outcome
         Ending::Made(v) => Outcome::Made(v),
         Ending::Stopped(s) => Outcome::Stopped(s),
     }
-}
-
-// A number noted by the checks: 32 is no range's.
-pub fn permit_of(n: usize) -> Permit
-    ensures { λ r. ⌜ r ≡ permitOf n ⌝ }
-{
-    if n < 32 {
-        return Permit::By(n);
-    }
-    Permit::Unasked
 }

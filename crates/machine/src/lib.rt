@@ -1,4 +1,5 @@
 // The machine: a step, and a run of steps.
 
 pub mod answer;
+mod run_steps;
 pub mod steps;

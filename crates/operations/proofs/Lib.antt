@@ -1,2 +1,3 @@
 -- Laws of the decoding.
 pub mod Keys
+pub mod Accesses

@@ -11,6 +11,8 @@ use Rattle.operations.specs.declared.Store.the-variants as store
 use Rattle.operations.specs.declared.Jump.the-variants as jump
 use Rattle.operations.specs.declared.Context.the-variants as context
 use Rattle.operations.specs.declared.System.the-variants as system
+use Rattle.operations.specs.declared.Access.{Access}
+use Rattle.operations.specs.declared.Access.the-variants.{Nothing, Read, Write}
 
 -- the last, RSTV, has number 78
 abbrev pub operations : List Operation
@@ -20,3 +22,14 @@ operations =
 -- the operation with a number; NOP past the table's end
 unfoldable pub operationOf : ℕ → Operation
 operationOf n = getD operations n Nop
+
+-- the loads read data memory, the stores write it
+abbrev pub accessOf : Operation → Access
+accessOf Nop = Nothing
+accessOf (Integer op) = Nothing
+accessOf (Move op) = Nothing
+accessOf (Load op) = Read
+accessOf (Store op) = Write
+accessOf (Jump op) = Nothing
+accessOf (Context op) = Nothing
+accessOf (System op) = Nothing

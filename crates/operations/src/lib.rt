@@ -2,7 +2,7 @@
 
 use integer::Integer;
 ghost use mathlib.Core.Path.{_≡_};
-ghost use Rattle.operations.specs.Operations.{operationOf};
+ghost use Rattle.operations.specs.Operations.{operationOf, accessOf};
 
 // The moves and the arithmetic of address registers.
 pub enum Move {
@@ -165,4 +165,27 @@ pub fn decode(number: u8) -> Operation
         78 => Operation::System(System::Rstv),
         _ => Operation::Nop,
     }
+}
+
+// What an operation does with data memory.
+pub enum Access {
+    Nothing,
+    Read,
+    Write,
+}
+
+// Of the operation with a number, as decode has it.
+pub fn access_of(number: u8) -> Access
+    ensures { λ r. ⌜ r ≡ accessOf (operationOf number) ⌝ }
+{
+    if number < 44 {
+        return Access::Nothing;
+    }
+    if number < 50 {
+        return Access::Read;
+    }
+    if number < 54 {
+        return Access::Write;
+    }
+    Access::Nothing
 }

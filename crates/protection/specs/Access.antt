@@ -1,7 +1,6 @@
 -- Memory access checking (002, 7.3): class 1 of the traps of a read, a write or a fetch.
 use Prim.Native.Nat.{ℕ}
-use mathlib.Core.Path.{_≡_}
-use mathlib.Core.Bool.{Bool, true, false, cond, not, _&&_, _||_}
+use mathlib.Core.Bool.{Bool, cond, not, _&&_, _||_}
 use mathlib.Core.List.{List}
 use lib.ListN.{getD}
 use lib.Dec.{leb}
@@ -9,7 +8,7 @@ use Rattle.fields.specs.Psw.{PSW·PRS, isUser0}
 use Rattle.fields.specs.Syscon.{SYSCON·PROTEN}
 use Rattle.events.specs.Traps.{MPR, MPW, MPX, MPP}
 use Rattle.events.specs.declared.trap.Trap.{Trap}
-use Rattle.protection.specs.Range.{permitted, PermittedBy}
+use Rattle.protection.specs.Range.{permitted}
 use Rattle.protection.specs.declared.range.Range.{Range}
 use Rattle.protection.specs.declared.range.Right.{Right}
 use Rattle.protection.specs.declared.range.Right.the-variants.{Read, Write, Execute}
@@ -37,12 +36,3 @@ checkOf core rs right address =
 -- the ranges are asked
 abbrev pub asks : List ℕ → ℕ → Bool
 asks core address = not (peripheral address) && SYSCON·PROTEN (getD core 9 0)
-
-abbrev pub NotesBy : Bool → List ℕ → List Range → Right → ℕ → ℕ → ℕ → Type 0
-NotesBy true core rs right address old new = PermittedBy rs (PSW·PRS (getD core 1 0)) right address new
-NotesBy false core rs right address old new = new ≡ old
-
--- where the ranges are asked and permit, the number noted is that of a permitting range; otherwise it is as it was
-abbrev pub Notes : List ℕ → List Range → Right → ℕ → ℕ → ℕ → Type 0
-Notes core rs right address old new =
-    NotesBy (asks core address && permitted rs (PSW·PRS (getD core 1 0)) right address) core rs right address old new

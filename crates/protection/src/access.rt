@@ -12,7 +12,7 @@ use registers::PSW;
 use registers::SYSCON;
 ghost use mathlib.Core.Path.{_≡_};
 ghost use Rattle.protection.specs.Range.{rangesIn};
-ghost use Rattle.protection.specs.Access.{deniedOf, checkOf, Notes};
+ghost use Rattle.protection.specs.Access.{deniedOf, checkOf};
 
 pub enum Check {
     Passes,
@@ -30,15 +30,9 @@ fn denied(right: Right) -> Trap
     }
 }
 
-// Checks the access to an address. Where protection asks and permits, `permit` is the number of a range that permits it.
-pub fn check_access(
-    core: &[u32; 10],
-    words: &[u32; 96],
-    right: Right,
-    address: u32,
-    permit: &mut usize,
-) -> Check
-    ensures { λ r. ⌜ (r ≡ checkOf (now (core .entry)) (rangesIn (now (words .entry))) right address) × Notes (now (core .entry)) (rangesIn (now (words .entry))) right address (now (permit .entry)) (now (permit .exit)) ⌝ }
+// Checks the access to an address.
+pub fn check_access(core: &[u32; 10], words: &[u32; 96], right: Right, address: u32) -> Check
+    ensures { λ r. ⌜ r ≡ checkOf (now (core .entry)) (rangesIn (now (words .entry))) right address ⌝ }
 {
     if 0xE000_0000 <= address {
         if fields::psw::user0(core[PSW]) {
@@ -56,9 +50,6 @@ pub fn check_access(
         address,
     ) {
         Found::Nothing => Check::Fails(denied(right)),
-        Found::By(k) => {
-            *permit = k;
-            Check::Passes
-        }
+        Found::By(_) => Check::Passes,
     }
 }

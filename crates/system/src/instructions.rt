@@ -16,6 +16,7 @@ ghost use mathlib.Core.Path.{_≡_};
 ghost use Rattle.registers.specs.Registers.{registers};
 ghost use Rattle.image.specs.Fetch.{FieldsHold};
 ghost use Rattle.acts.specs.Acts.{ended};
+ghost use Rattle.acts.specs.Steady.{plainly, Keeps};
 ghost use Rattle.system.specs.Instructions.{enableOf, systemOf};
 
 // ENABLE and DISABLE: IE.
@@ -26,14 +27,15 @@ fn set_enable(
     ie: bool,
     next: u32,
 ) -> How
-    ensures { λ r. ⌜ ended r (registers (now (d .exit)) (now (a .exit)) (now (core .exit))) ≡ enableOf ie next (registers (now (d .entry)) (now (a .entry)) (now (core .entry))) ⌝ }
+    ensures { λ r. ⌜ ended (plainly r) (registers (now (d .exit)) (now (a .exit)) (now (core .exit))) ≡ enableOf ie next (registers (now (d .entry)) (now (a .entry)) (now (core .entry))) ⌝ }
+    ensures { λ r. ⌜ Keeps r (registers (now (d .entry)) (now (a .entry)) (now (core .entry))) (registers (now (d .exit)) (now (a .exit)) (now (core .exit))) ⌝ }
 {
     if psw::user0(core[PSW]) {
         return How::Trap(PRIV);
     }
     core[ICR] = fields::icr::written(core[ICR], ie, fields::icr::priority(core[ICR]));
     core[PC] = next;
-    How::Done
+    How::Switched
 }
 
 pub fn execute_system(
@@ -44,7 +46,8 @@ pub fn execute_system(
     i: Instruction,
 ) -> How
     requires { ⌜ FieldsHold i ⌝ }
-    ensures { λ r. ⌜ ended r (registers (now (d .exit)) (now (a .exit)) (now (core .exit))) ≡ systemOf op i (registers (now (d .entry)) (now (a .entry)) (now (core .entry))) ⌝ }
+    ensures { λ r. ⌜ ended (plainly r) (registers (now (d .exit)) (now (a .exit)) (now (core .exit))) ≡ systemOf op i (registers (now (d .entry)) (now (a .entry)) (now (core .entry))) ⌝ }
+    ensures { λ r. ⌜ Keeps r (registers (now (d .entry)) (now (a .entry)) (now (core .entry))) (registers (now (d .exit)) (now (a .exit)) (now (core .exit))) ⌝ }
 {
     match op {
         System::Enable => set_enable(d, a, core, true, i.next),
@@ -62,7 +65,7 @@ pub fn execute_system(
             let x = i.a;
             write_core(core, i.imm, d[x]);
             core[PC] = i.next;
-            How::Done
+            How::Switched
         }
         System::Trapv => {
             if psw::overflow(core[PSW]) {

@@ -22,10 +22,12 @@ use Rattle.interrupts.specs.Sources.{betterOf, bestBelow, takes, clearedAt}
 use Rattle.operations.specs.Operations.{operationOf}
 use Rattle.image.specs.Table.{entryAt, entryHolds, entriesFrom, tableOf}
 use Rattle.image.specs.Records.{recordHolds, recordsFrom, imageOf}
-use Rattle.image.specs.Fetch.{instructionAt, fetchFrom, fetchOf}
+use Rattle.image.specs.Rest.{restFrom, restOf}
+use Rattle.image.specs.Fetch.{instructionAt, fetchOf}
 use Rattle.inputs.specs.Checks.{windowHolds, stepVerdict, startVerdict}
 use Rattle.inputs.specs.declared.verdict.Verdict.the-variants.{Accepted}
-use Rattle.accesses.specs.Store.{storeAtOf, storeOf}
+use Rattle.accesses.specs.Reach.{alignedReach, reachOf}
+use Rattle.accesses.specs.Store.{storeOf}
 use Rattle.calls.specs.Saves.{calledThen, callOf, svlcxOf, bisrThen, bisrOf}
 use Rattle.calls.specs.Returns.{previousOf, retOf, rfeOf, rslcxOf}
 use Rattle.calls.specs.Instructions.{contextOp}
@@ -47,25 +49,25 @@ unfolding wordAt placedAt walkOf listsOf entryAt entryHolds entriesFrom tableOf 
 accepted = refl
 
 pub happened : outcomes (allArgs calls start) ≡ happening
-unfolding bit isSet counterBits counts overflowsUp underflowsDown nested calledOf icrOf pcxiOf requests clearedOf wordAt wordsAt putWord putWords plusOf placedAt upperOf lowerOf roomAt takeOf saveAtOf saveOf loadOf returnOf stackOf enteredOf trapEntry interruptEntry interruptOf trapOf fcdOf betterOf bestBelow takes clearedAt enables permits firstOf anyFrom checkOf operationOf entryAt entryHolds entriesFrom tableOf recordHolds recordsFrom imageOf instructionAt fetchFrom fetchOf windowHolds stepVerdict calledThen callOf svlcxOf bisrThen bisrOf previousOf retOf rfeOf rslcxOf contextOp storeAtOf storeOf actOf finishOf executeOf instructionOf oneOf requestsOf stepOf runFrom runOf runArgs
+unfolding bit isSet counterBits counts overflowsUp underflowsDown nested calledOf icrOf pcxiOf requests clearedOf wordAt wordsAt putWord putWords plusOf placedAt upperOf lowerOf roomAt takeOf saveAtOf saveOf loadOf returnOf stackOf enteredOf trapEntry interruptEntry interruptOf trapOf fcdOf betterOf bestBelow takes clearedAt enables permits firstOf anyFrom checkOf operationOf entryAt entryHolds entriesFrom tableOf recordHolds recordsFrom imageOf restFrom restOf instructionAt fetchOf windowHolds stepVerdict calledThen callOf svlcxOf bisrThen bisrOf previousOf retOf rfeOf rslcxOf contextOp alignedReach reachOf storeOf actOf finishOf executeOf instructionOf oneOf requestsOf stepOf runFrom runOf runArgs
 happened = refl
 
 pub no-area-left : movedAll (allArgs saving start) begun ≡ depleted
-unfolding bit isSet counterBits counts overflowsUp underflowsDown nested calledOf icrOf pcxiOf requests clearedOf wordAt wordsAt putWord putWords plusOf placedAt upperOf lowerOf roomAt takeOf saveAtOf saveOf loadOf returnOf stackOf enteredOf trapEntry interruptEntry interruptOf trapOf fcdOf betterOf bestBelow takes clearedAt enables permits firstOf anyFrom checkOf operationOf entryAt entryHolds entriesFrom tableOf recordHolds recordsFrom imageOf instructionAt fetchFrom fetchOf windowHolds stepVerdict calledThen callOf svlcxOf bisrThen bisrOf previousOf retOf rfeOf rslcxOf contextOp storeAtOf storeOf actOf finishOf executeOf instructionOf oneOf requestsOf stepOf runFrom runOf runArgs decisionOf upperRegisters lowerRegisters moved movedAt
+unfolding bit isSet counterBits counts overflowsUp underflowsDown nested calledOf icrOf pcxiOf requests clearedOf wordAt wordsAt putWord putWords plusOf placedAt upperOf lowerOf roomAt takeOf saveAtOf saveOf loadOf returnOf stackOf enteredOf trapEntry interruptEntry interruptOf trapOf fcdOf betterOf bestBelow takes clearedAt enables permits firstOf anyFrom checkOf operationOf entryAt entryHolds entriesFrom tableOf recordHolds recordsFrom imageOf restFrom restOf instructionAt fetchOf windowHolds stepVerdict calledThen callOf svlcxOf bisrThen bisrOf previousOf retOf rfeOf rslcxOf contextOp alignedReach reachOf storeOf actOf finishOf executeOf instructionOf oneOf requestsOf stepOf runFrom runOf runArgs decisionOf upperRegisters lowerRegisters moved movedAt
 no-area-left = refl
 
 pub no-area-used : movedAll (allArgs (saving ++ returning) start) begun ≡ allFree
-unfolding bit isSet counterBits counts overflowsUp underflowsDown nested calledOf icrOf pcxiOf requests clearedOf wordAt wordsAt putWord putWords plusOf placedAt upperOf lowerOf roomAt takeOf saveAtOf saveOf loadOf returnOf stackOf enteredOf trapEntry interruptEntry interruptOf trapOf fcdOf betterOf bestBelow takes clearedAt enables permits firstOf anyFrom checkOf operationOf entryAt entryHolds entriesFrom tableOf recordHolds recordsFrom imageOf instructionAt fetchFrom fetchOf windowHolds stepVerdict calledThen callOf svlcxOf bisrThen bisrOf previousOf retOf rfeOf rslcxOf contextOp storeAtOf storeOf actOf finishOf executeOf instructionOf oneOf requestsOf stepOf runFrom runOf runArgs decisionOf upperRegisters lowerRegisters moved movedAt
+unfolding bit isSet counterBits counts overflowsUp underflowsDown nested calledOf icrOf pcxiOf requests clearedOf wordAt wordsAt putWord putWords plusOf placedAt upperOf lowerOf roomAt takeOf saveAtOf saveOf loadOf returnOf stackOf enteredOf trapEntry interruptEntry interruptOf trapOf fcdOf betterOf bestBelow takes clearedAt enables permits firstOf anyFrom checkOf operationOf entryAt entryHolds entriesFrom tableOf recordHolds recordsFrom imageOf restFrom restOf instructionAt fetchOf windowHolds stepVerdict calledThen callOf svlcxOf bisrThen bisrOf previousOf retOf rfeOf rslcxOf contextOp alignedReach reachOf storeOf actOf finishOf executeOf instructionOf oneOf requestsOf stepOf runFrom runOf runArgs decisionOf upperRegisters lowerRegisters moved movedAt
 no-area-used = refl
 
 pub after : movedAll (allArgs calls start) begun ≡ ended
-unfolding bit isSet counterBits counts overflowsUp underflowsDown nested calledOf icrOf pcxiOf requests clearedOf wordAt wordsAt putWord putWords plusOf placedAt upperOf lowerOf roomAt takeOf saveAtOf saveOf loadOf returnOf stackOf enteredOf trapEntry interruptEntry interruptOf trapOf fcdOf betterOf bestBelow takes clearedAt enables permits firstOf anyFrom checkOf operationOf entryAt entryHolds entriesFrom tableOf recordHolds recordsFrom imageOf instructionAt fetchFrom fetchOf windowHolds stepVerdict calledThen callOf svlcxOf bisrThen bisrOf previousOf retOf rfeOf rslcxOf contextOp storeAtOf storeOf actOf finishOf executeOf instructionOf oneOf requestsOf stepOf runFrom runOf runArgs decisionOf upperRegisters lowerRegisters moved movedAt
+unfolding bit isSet counterBits counts overflowsUp underflowsDown nested calledOf icrOf pcxiOf requests clearedOf wordAt wordsAt putWord putWords plusOf placedAt upperOf lowerOf roomAt takeOf saveAtOf saveOf loadOf returnOf stackOf enteredOf trapEntry interruptEntry interruptOf trapOf fcdOf betterOf bestBelow takes clearedAt enables permits firstOf anyFrom checkOf operationOf entryAt entryHolds entriesFrom tableOf recordHolds recordsFrom imageOf restFrom restOf instructionAt fetchOf windowHolds stepVerdict calledThen callOf svlcxOf bisrThen bisrOf previousOf retOf rfeOf rslcxOf contextOp alignedReach reachOf storeOf actOf finishOf executeOf instructionOf oneOf requestsOf stepOf runFrom runOf runArgs decisionOf upperRegisters lowerRegisters moved movedAt
 after = refl
 
 pub restored : afterAll (saving ++ returning) start .registers ≡ loaded
-unfolding bit isSet counterBits counts overflowsUp underflowsDown nested calledOf icrOf pcxiOf requests clearedOf wordAt wordsAt putWord putWords plusOf placedAt upperOf lowerOf roomAt takeOf saveAtOf saveOf loadOf returnOf stackOf enteredOf trapEntry interruptEntry interruptOf trapOf fcdOf betterOf bestBelow takes clearedAt enables permits firstOf anyFrom checkOf operationOf entryAt entryHolds entriesFrom tableOf recordHolds recordsFrom imageOf instructionAt fetchFrom fetchOf windowHolds stepVerdict calledThen callOf svlcxOf bisrThen bisrOf previousOf retOf rfeOf rslcxOf contextOp storeAtOf storeOf actOf finishOf executeOf instructionOf oneOf requestsOf stepOf runFrom runOf runArgs
+unfolding bit isSet counterBits counts overflowsUp underflowsDown nested calledOf icrOf pcxiOf requests clearedOf wordAt wordsAt putWord putWords plusOf placedAt upperOf lowerOf roomAt takeOf saveAtOf saveOf loadOf returnOf stackOf enteredOf trapEntry interruptEntry interruptOf trapOf fcdOf betterOf bestBelow takes clearedAt enables permits firstOf anyFrom checkOf operationOf entryAt entryHolds entriesFrom tableOf recordHolds recordsFrom imageOf restFrom restOf instructionAt fetchOf windowHolds stepVerdict calledThen callOf svlcxOf bisrThen bisrOf previousOf retOf rfeOf rslcxOf contextOp alignedReach reachOf storeOf actOf finishOf executeOf instructionOf oneOf requestsOf stepOf runFrom runOf runArgs
 restored = refl
 
 pub stored : wordAt (afterAll calls start .memory .bytes) 320 ≡ 1
-unfolding bit isSet counterBits counts overflowsUp underflowsDown nested calledOf icrOf pcxiOf requests clearedOf wordAt wordsAt putWord putWords plusOf placedAt upperOf lowerOf roomAt takeOf saveAtOf saveOf loadOf returnOf stackOf enteredOf trapEntry interruptEntry interruptOf trapOf fcdOf betterOf bestBelow takes clearedAt enables permits firstOf anyFrom checkOf operationOf entryAt entryHolds entriesFrom tableOf recordHolds recordsFrom imageOf instructionAt fetchFrom fetchOf windowHolds stepVerdict calledThen callOf svlcxOf bisrThen bisrOf previousOf retOf rfeOf rslcxOf contextOp storeAtOf storeOf actOf finishOf executeOf instructionOf oneOf requestsOf stepOf runFrom runOf runArgs
+unfolding bit isSet counterBits counts overflowsUp underflowsDown nested calledOf icrOf pcxiOf requests clearedOf wordAt wordsAt putWord putWords plusOf placedAt upperOf lowerOf roomAt takeOf saveAtOf saveOf loadOf returnOf stackOf enteredOf trapEntry interruptEntry interruptOf trapOf fcdOf betterOf bestBelow takes clearedAt enables permits firstOf anyFrom checkOf operationOf entryAt entryHolds entriesFrom tableOf recordHolds recordsFrom imageOf restFrom restOf instructionAt fetchOf windowHolds stepVerdict calledThen callOf svlcxOf bisrThen bisrOf previousOf retOf rfeOf rslcxOf contextOp alignedReach reachOf storeOf actOf finishOf executeOf instructionOf oneOf requestsOf stepOf runFrom runOf runArgs
 stored = refl

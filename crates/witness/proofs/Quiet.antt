@@ -31,9 +31,11 @@ use Rattle.operations.specs.declared.Store.the-variants.{StW}
 use Rattle.operations.specs.Operations.{operationOf}
 use Rattle.image.specs.Table.{entryAt, entryHolds, entriesFrom, tableOf}
 use Rattle.image.specs.Records.{recordHolds, recordsFrom, imageOf}
-use Rattle.image.specs.Fetch.{instructionAt, fetchFrom, fetchOf}
+use Rattle.image.specs.Rest.{restFrom, restOf}
+use Rattle.image.specs.Fetch.{instructionAt, fetchOf}
 use Rattle.inputs.specs.Checks.{windowHolds, stepVerdict}
-use Rattle.accesses.specs.Store.{storeAtOf, storeOf}
+use Rattle.accesses.specs.Reach.{alignedReach, reachOf}
+use Rattle.accesses.specs.Store.{storeOf}
 use Rattle.calls.specs.Saves.{calledThen, callOf, svlcxOf, bisrThen, bisrOf}
 use Rattle.calls.specs.Returns.{previousOf, retOf, rfeOf, rslcxOf}
 use Rattle.calls.specs.Instructions.{contextOp}
@@ -78,6 +80,6 @@ still s h = record { stores = s; heads = h }
 
 -- the fifth step is refused
 pub quiet : AllQuiet (listed begun) (allArgs calls start)
-unfolding bit isSet counterBits counts overflowsUp underflowsDown nested calledOf icrOf pcxiOf requests clearedOf wordAt wordsAt putWord putWords plusOf placedAt upperOf lowerOf roomAt takeOf saveAtOf saveOf loadOf returnOf stackOf enteredOf trapEntry interruptEntry interruptOf trapOf fcdOf betterOf bestBelow takes clearedAt enables permits firstOf anyFrom checkOf operationOf entryAt entryHolds entriesFrom tableOf recordHolds recordsFrom imageOf instructionAt fetchFrom fetchOf windowHolds stepVerdict calledThen callOf svlcxOf bisrThen bisrOf previousOf retOf rfeOf rslcxOf contextOp storeAtOf storeOf actOf finishOf executeOf instructionOf oneOf requestsOf stepOf runFrom runOf runArgs stepHeads decisionOf
+unfolding bit isSet counterBits counts overflowsUp underflowsDown nested calledOf icrOf pcxiOf requests clearedOf wordAt wordsAt putWord putWords plusOf placedAt upperOf lowerOf roomAt takeOf saveAtOf saveOf loadOf returnOf stackOf enteredOf trapEntry interruptEntry interruptOf trapOf fcdOf betterOf bestBelow takes clearedAt enables permits firstOf anyFrom checkOf operationOf entryAt entryHolds entriesFrom tableOf recordHolds recordsFrom imageOf restFrom restOf instructionAt fetchOf windowHolds stepVerdict calledThen callOf svlcxOf bisrThen bisrOf previousOf retOf rfeOf rslcxOf contextOp alignedReach reachOf storeOf actOf finishOf executeOf instructionOf oneOf requestsOf stepOf runFrom runOf runArgs stepHeads decisionOf
 quiet =
     (still tt refl, (still tt refl, (still away refl, (still tt refl, (tt, (still tt refl, (still tt refl, (still tt refl, (still tt refl, (still tt refl, (still tt refl, (still tt refl, tt))))))))))))

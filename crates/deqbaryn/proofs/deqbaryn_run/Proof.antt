@@ -5,7 +5,7 @@ use Rattle.deqbaryn.proofs.deqbaryn_run.Statement.{statement}
 use Rattle.deqbaryn.proofs.deqbaryn_run.Tie as tie
 
 returns : tie.Need-returns
-returns c = run-wrong _ _ _ (c .before .if1 .taken) (c .packed .ensures) _
+returns c = run-wrong _ _ _ (c .before .if1 .taken) (c .wrong-length .ensures) _
 
 returns-2 : tie.Need-returns-2
 returns-2 c = run-right _ _ _ (c .before .before .before .before .before .before .before .before .before .before .before .before .before .before .before .before .before .if1 .left) (c .before .before .before .before .before .before .before .before .before .before .before .before .before .before .before .read-registers .ensures) (c .before .before .before .before .before .before .before .before .before .before .before .before .before .read-requests .ensures) (c .before .before .before .before .before .before .before .before .before .before .before .read-ranges .ensures) _ _ (c .before .before .before .before .before .before .before .before .before .run .ensures) (c .before .before .before .store-run .ensures) (c .outcome-answer .ensures)

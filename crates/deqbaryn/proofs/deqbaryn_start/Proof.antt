@@ -7,7 +7,7 @@ use Rattle.deqbaryn.proofs.deqbaryn_start.Statement.{statement}
 use Rattle.deqbaryn.proofs.deqbaryn_start.Tie as tie
 
 returns : tie.Need-returns
-returns c = (start-wrong (c .before .before .before .before .before .args .core .now) (memory (c .before .before .before .before .before .args .base) (c .before .before .before .before .before .args .window .now)) (c .before .before .before .before .before .args .image .now) (c .before .if1 .taken) (c .packed .ensures), (refl, refl, refl))
+returns c = (start-wrong (c .before .before .before .before .before .args .core .now) (memory (c .before .before .before .before .before .args .base) (c .before .before .before .before .before .args .window .now)) (c .before .before .before .before .before .args .image .now) (c .before .if1 .taken) (c .wrong-length .ensures), (refl, refl, refl))
 
 returns-2 : tie.Need-returns-2
 returns-2 c = (start-right (c .before .before .before .before .before .before .before .before .before .before .args .core .now) (memory (c .before .before .before .before .before .before .before .before .before .before .args .base) (c .before .before .before .before .before .before .before .before .before .before .args .window .now)) (c .before .before .before .before .before .before .before .before .before .before .args .image .now) (c .before .before .before .before .before .before .if1 .left) (c .before .before .before .before .before .read-registers .ensures) (c .before .try-start .ensures .0 .0) (c .verdict-answer .ensures), (refl, refl, refl))

@@ -10,24 +10,29 @@ returns c = rw (c .enum-told .given .1)
 
 returns-2 : tie.Need-returns-2
 unfolding finishOf
-returns-2 c = rw (c .before .before .before .before .before .before .before .before .enum-told2 .given .1, c .passed-on .ensures) (c .before .before .before .enter-fcd .ensures)
+returns-2 c = rw (c .enum-told2 .given .1)
 
 returns-3 : tie.Need-returns-3
 unfolding finishOf
-returns-3 c = rw (c .before .before .before .before .before .before .before .before .before .before .how .given .1, c .passed-on2 .ensures) (c .before .before .before .trap .ensures)
+returns-3 c = rw (c .before .before .before .before .before .before .before .before .enum-told3 .given .1, c .passed-on .ensures) (c .before .before .before .enter-fcd .ensures)
 
 returns-4 : tie.Need-returns-4
 unfolding finishOf
-returns-4 c = rw (c .before .before .before .before .before .before .before .before .before .how2 .given .1, c .passed-on3 .ensures) (c .before .before .before .trap2 .ensures)
+returns-4 c = rw (c .before .before .before .before .before .before .before .before .before .before .how .given .1, c .passed-on2 .ensures) (c .before .before .before .trap .ensures)
 
 returns-5 : tie.Need-returns-5
 unfolding finishOf
-returns-5 c = rw (c .before .how3 .given .1)
+returns-5 c = rw (c .before .before .before .before .before .before .before .before .before .how2 .given .1, c .passed-on3 .ensures) (c .before .before .before .trap2 .ensures)
+
+returns-6 : tie.Need-returns-6
+unfolding finishOf
+returns-6 c = rw (c .before .how3 .given .1)
 
 pub finish-spec : {M : Type 1} → statement M
 finish-spec =
     tie.close
     (tie.spec
+    (λ c. search needs)
     (λ c. search needs)
     (λ c. search needs)
     (λ c κs. search needs)
@@ -41,10 +46,11 @@ finish-spec =
     (λ c κs. search needs)
     (λ c. search needs)
     returns
-    (λ c. search needs)
     returns-2
     (λ c. search needs)
     returns-3
     (λ c. search needs)
     returns-4
-    returns-5)
+    (λ c. search needs)
+    returns-5
+    returns-6)

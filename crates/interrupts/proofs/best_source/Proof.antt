@@ -19,14 +19,14 @@ unfolding bestBelow
 loop-holds c = (omega arith, refl)
 
 loop-again : tie.Need-loop-again Inv-loop μ-loop
-loop-again c = (omega arith, c .better .ensures ∙ turn _ _ _ (c .before .before .loop .inv .1))
+loop-again c = (omega arith, c .better .ensures ∙ turn _ _ _ (c .before .before .before .loop .inv .1))
 
 returns : tie.Need-returns Inv-loop μ-loop
 returns c =
     let l = c .before .loop in
     let e : l .i ≡ 16 = omega arith in
-    let is : l .b ≡ bestOf (c .before .before .args .t1) = subst (λ (n : ℕ). l .b ≡ bestBelow n (c .before .before .args .t1)) e (l .inv .1) in
-    (is, rw is (highest (c .before .before .args .t1)))
+    let is : l .b ≡ bestOf (c .before .before .args .sources .now) = subst (λ (n : ℕ). l .b ≡ bestBelow n (c .before .before .args .sources .now)) e (l .inv .1) in
+    (is, rw is (highest (c .before .before .args .sources .now)))
 
 pub best-source-spec : {M : Type 1} → statement M
 best-source-spec =

@@ -1,50 +1,52 @@
 -- `system::instructions::execute_system` meets its contract. Assumes nothing.
 use borrow.Author.Needs.{needs}
-use mathlib.Core.Path.{sym, _∙_}
+use mathlib.Core.Path.{refl, sym, _∙_}
 use borrow.Author.Tests.{not-true, not-false}
+use Rattle.fields.proofs.RangeSets.{prs-reset}
+use Rattle.acts.proofs.Steadiness.{steady-next, steady-flags}
 use Rattle.system.specs.Instructions.{systemOf}
 use Rattle.system.proofs.instructions.execute_system.Statement.{statement}
 use Rattle.system.proofs.instructions.execute_system.Tie as tie
 
 returns : tie.Need-returns
 unfolding systemOf
-returns c = rw (c .before .before .before .enum-told4 .given .1, sym (c .before .supervisor .ensures) ∙ not-true _ (c .if1 .taken))
+returns c = (rw (c .before .before .before .enum-told4 .given .1, sym (c .before .supervisor .ensures) ∙ not-true _ (c .if1 .taken)) refl, tt)
 
 returns-2 : tie.Need-returns-2
 unfolding systemOf
-returns-2 c = rw (c .before .before .before .enum-told5 .given .1, ← c .before .overflow .ensures, c .if2 .taken)
+returns-2 c = (rw (c .before .before .before .enum-told5 .given .1, ← c .before .overflow .ensures, c .if2 .taken) refl, tt)
 
 returns-3 : tie.Need-returns-3
 unfolding systemOf
-returns-3 c = rw (c .before .before .before .enum-told6 .given .1, ← c .before .sticky-overflow .ensures, c .if3 .taken)
+returns-3 c = (rw (c .before .before .before .enum-told6 .given .1, ← c .before .sticky-overflow .ensures, c .if3 .taken) refl, tt)
 
 returns-4 : tie.Need-returns-4
 unfolding systemOf
-returns-4 c = rw (c .before .before .before .before .enum-told .given .1) (c .set-enable .ensures)
+returns-4 c = (rw (c .before .before .before .before .enum-told .given .1) (c .set-enable .ensures .0), c .set-enable .ensures .1)
 
 returns-5 : tie.Need-returns-5
 unfolding systemOf
-returns-5 c = rw (c .before .before .before .before .enum-told2 .given .1) (c .set-enable2 .ensures)
+returns-5 c = (rw (c .before .before .before .before .enum-told2 .given .1) (c .set-enable2 .ensures .0), c .set-enable2 .ensures .1)
 
 returns-6 : tie.Need-returns-6
 unfolding systemOf
-returns-6 c = rw (c .before .before .enum-told3 .given .1, c .read-core .ensures)
+returns-6 c = (rw (c .before .before .enum-told3 .given .1, c .read-core .ensures) refl, steady-next _ _ _ _)
 
 returns-7 : tie.Need-returns-7
 unfolding systemOf
-returns-7 c = rw (c .before .before .before .before .before .before .enum-told4 .given .1, sym (c .before .before .before .before .supervisor .ensures) ∙ not-false _ (c .before .before .before .if1 .left), ← c .write-core .ensures)
+returns-7 c = (rw (c .before .before .before .before .before .before .enum-told4 .given .1, sym (c .before .before .before .before .supervisor .ensures) ∙ not-false _ (c .before .before .before .if1 .left), ← c .write-core .ensures) refl, tt)
 
 returns-8 : tie.Need-returns-8
 unfolding systemOf
-returns-8 c = rw (c .before .before .before .enum-told5 .given .1, ← c .before .overflow .ensures, c .if2 .left)
+returns-8 c = (rw (c .before .before .before .enum-told5 .given .1, ← c .before .overflow .ensures, c .if2 .left) refl, steady-next _ _ _ _)
 
 returns-9 : tie.Need-returns-9
 unfolding systemOf
-returns-9 c = rw (c .before .before .before .enum-told6 .given .1, ← c .before .sticky-overflow .ensures, c .if3 .left)
+returns-9 c = (rw (c .before .before .before .enum-told6 .given .1, ← c .before .sticky-overflow .ensures, c .if3 .left) refl, steady-next _ _ _ _)
 
 returns-10 : tie.Need-returns-10
 unfolding systemOf
-returns-10 c = rw (c .before .before .enum-told7 .given .1, c .reset .ensures)
+returns-10 c = (rw (c .before .before .enum-told7 .given .1, c .reset .ensures) refl, steady-flags _ _ _ _ _ (rw (c .reset .ensures) (prs-reset _)))
 
 pub execute-system-spec : {M : Type 1} → statement M
 execute-system-spec =

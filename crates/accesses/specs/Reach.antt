@@ -1,0 +1,36 @@
+-- Where an access to data reaches: its place in the window, or the trap that it takes.
+use Prim.Native.Nat.{ℕ, _%_}
+use mathlib.Core.Bool.{Bool, cond}
+use mathlib.Core.List.{List}
+use lib.Dec.{eqb}
+use Rattle.areas.specs.Place.{placedAt}
+use Rattle.areas.specs.declared.link.Place.{Place}
+use Rattle.areas.specs.declared.link.Place.the-variants as place
+use Rattle.events.specs.Traps.{GRWP, ALN, DATA}
+use Rattle.protection.specs.Access.{checkOf}
+use Rattle.protection.specs.declared.range.Range.{Range}
+use Rattle.protection.specs.declared.range.Right.{Right}
+use Rattle.protection.specs.declared.access.Check.{Check}
+use Rattle.protection.specs.declared.access.Check.the-variants.{Passes, Fails}
+use Rattle.accesses.specs.declared.reach.Reach.{Reach}
+use Rattle.accesses.specs.declared.reach.Reach.the-variants.{At, Traps}
+
+-- 4/2: data not wholly in the window
+abbrev pub placedReach : Place → Reach
+placedReach place.Outside = Traps DATA
+placedReach (place.At at) = At at
+
+-- the traps after those of protection, lowest first: 1/7 where GW guards the register that is written, 2/4, 4/2
+unfoldable pub alignedReach : ℕ → ℕ → Bool → ℕ → ℕ → ℕ → Reach
+alignedReach base len guarded size alignment address =
+    cond guarded (Traps GRWP)
+    (cond (eqb (address % alignment) 0) (placedReach (placedAt base len size (record { 0 = address }))) (Traps ALN))
+
+abbrev pub checkedReach : Check → Reach → Reach
+checkedReach (Fails t) reach = Traps t
+checkedReach Passes reach = reach
+
+-- an access of `size` bytes at an address that has to be a multiple of `alignment`, in a window of len bytes at base
+unfoldable pub reachOf : ℕ → ℕ → List ℕ → List Range → Right → Bool → ℕ → ℕ → ℕ → Reach
+reachOf base len core rs right guarded size alignment address =
+    checkedReach (checkOf core rs right address) (alignedReach base len guarded size alignment address)

@@ -1,0 +1,66 @@
+// Where an access reaches in the window, or the trap that it takes.
+
+use areas::link::Address;
+use areas::link::Place;
+use areas::link::place_at;
+use events::trap::ALN;
+use events::trap::DATA;
+use events::trap::GRWP;
+use events::trap::Trap;
+use protection::access::Check;
+use protection::access::check_access;
+use protection::range::Right;
+ghost use mathlib.Core.Path.{_≡_};
+ghost use Prim.Native.Nat.{_<_};
+ghost use Rattle.protection.specs.Range.{rangesIn};
+ghost use Rattle.accesses.specs.Reach.{alignedReach, reachOf};
+
+pub enum Reach {
+    At(usize),
+    Traps(Trap),
+}
+
+// Of an access that protection permits.
+fn reach_aligned(
+    base: u32,
+    len: usize,
+    guarded: bool,
+    size: u8,
+    alignment: u32,
+    address: u32,
+) -> Reach
+    requires { ⌜ 0 < alignment ⌝ }
+    ensures { λ r. ⌜ r ≡ alignedReach base len guarded size alignment address ⌝ }
+{
+    if guarded {
+        return Reach::Traps(GRWP);
+    }
+    if address % alignment != 0 {
+        return Reach::Traps(ALN);
+    }
+    match place_at(Address(base), len, size, Address(address)) {
+        Place::Outside => Reach::Traps(DATA),
+        Place::At(at) => Reach::At(at),
+    }
+}
+
+// An access of some bytes to an address, in a window of len bytes at base. `guarded` says that GW forbids the register that it writes.
+pub fn reach_data(
+    base: u32,
+    len: usize,
+    core: &[u32; 10],
+    ranges: &[u32; 96],
+    right: Right,
+    guarded: bool,
+    size: u8,
+    alignment: u32,
+    address: u32,
+) -> Reach
+    requires { ⌜ 0 < alignment ⌝ }
+    ensures { λ r. ⌜ r ≡ reachOf base len (now (core .entry)) (rangesIn (now (ranges .entry))) right guarded size alignment address ⌝ }
+{
+    match check_access(core, ranges, right, address) {
+        Check::Fails(t) => Reach::Traps(t),
+        Check::Passes => reach_aligned(base, len, guarded, size, alignment, address),
+    }
+}

@@ -1,0 +1,2 @@
+-- The answers of the host library.
+pub mod Answers

@@ -1,0 +1,33 @@
+-- What an instruction answers: that it is done and steady, or its ending.
+use mathlib.Core.Bool.{Bool, true, false}
+use Rattle.registers.specs.declared.Registers.{Registers}
+use Rattle.events.specs.declared.event.Event.the-variants as event
+use Rattle.events.specs.declared.event.Ending.{Ending}
+use Rattle.events.specs.declared.event.Ending.the-variants.{Made}
+use Rattle.acts.specs.Steady as acts
+use Rattle.acts.specs.declared.How.{How}
+use Rattle.acts.specs.declared.How.the-variants as how
+use Rattle.execute.specs.declared.Executed.{Executed}
+use Rattle.execute.specs.declared.Executed.the-variants.{Steady, Ended}
+
+abbrev pub endingOf : Executed → Ending
+endingOf Steady = Made event.Instruction
+endingOf (Ended e) = e
+
+abbrev pub isSteady : Executed → Bool
+isSteady Steady = true
+isSteady (Ended e) = false
+
+-- an instruction that is done, and no more
+abbrev pub isDone : How → Bool
+isDone how.Done = true
+isDone how.Switched = false
+isDone how.Depleted = false
+isDone (how.Trap t) = false
+isDone (how.TrapAfter t) = false
+isDone (how.Stopped s) = false
+
+-- the registers before and after
+abbrev pub Kept : Executed → Registers → Registers → Type 0
+Kept Steady r q = acts.Steady r q
+Kept (Ended e) r q = Unit {0}

@@ -1,0 +1,156 @@
+-- Instructions of a span, one after the other.
+-- Assumes nothing.
+use Prim.Native.Nat.{ℕ, suc, _+_, _-_, _*_, _≤_, _<_}
+use native.Mathlib.Omega.{arith}
+use mathlib.Core.Path.{_≡_, refl, sym, ap, subst, _∙_}
+use mathlib.Core.Bool.{true, false}
+use mathlib.Core.List.{List}
+use Rattle.words.proofs.Truth.{never}
+use Rattle.memory.specs.Memory.{Memory}
+use Rattle.registers.specs.Registers.{pc, icr}
+use Rattle.registers.specs.declared.Registers.{Registers}
+use Rattle.events.specs.declared.event.Event.{Event}
+use Rattle.events.specs.declared.event.Event.the-variants as event
+use Rattle.events.specs.declared.event.Stop.{Stop}
+use Rattle.events.specs.declared.event.Ending.{Ending}
+use Rattle.events.specs.declared.event.Ending.the-variants as ending
+use Rattle.protection.specs.declared.range.Range.{Range}
+use Rattle.interrupts.specs.Sources.{bestOf, takes}
+use Rattle.image.specs.Rest.{IndexSays}
+use Rattle.image.specs.Fetch.{instructionAt}
+use Rattle.image.specs.declared.fetch.Instruction.{Instruction}
+use Rattle.entries.specs.Entry.{MadeOf}
+use Rattle.execute.specs.Execute.{executeOf}
+use Rattle.execute.specs.Executed.{endingOf, isSteady, Kept}
+use Rattle.execute.specs.declared.Executed.{Executed}
+use Rattle.execute.specs.declared.Executed.the-variants as executed
+use Rattle.decisions.specs.Phases.{oneOf, instructionOf, requestsOf}
+use Rattle.machine.specs.Run.{runFrom}
+use Rattle.spans.specs.Spans.{SpanHolds}
+use Rattle.machine.specs.Inner.{Ready, paced, pacedAfter, leftBy, Paces}
+use Rattle.machine.specs.declared.answer.Outcome.{Outcome}
+use Rattle.machine.specs.declared.answer.Outcome.the-variants as outcome
+use Rattle.spans.specs.declared.Span.{Span}
+use Rattle.machine.proofs.Turns.{ready-next, run-made, run-stopped, run-last, quiet-one, quiet-requests}
+use Rattle.spans.proofs.Spans.{in-span, span-steady}
+
+module _ (n : ℕ) (img : List ℕ) (rs : List Range) (r₀ : Registers) (m₀ : Memory) where
+  -- no interrupt is taken before the first step
+  abbrev Quiet : List ℕ → Type 0
+  Quiet xs = takes (icr r₀) (bestOf xs .level) ≡ false
+
+  -- before an instruction, with `left` steps to make
+  pub record Stands (left : ℕ) (r : Registers) (m : Memory) : Type 0 where
+    pub same : icr r ≡ icr r₀
+    pub some : 0 < left
+    pub most : left ≤ n
+    pub ready : (xs : List ℕ) → Quiet xs → Ready img r m
+    pub run : (xs : List ℕ) → Quiet xs → (x last : Outcome) (k : ℕ) → runFrom left img rs x (k + (n - left)) r xs m ≡ runFrom n img rs last k r₀ xs m₀
+
+  pub stands-first : 0 < n → Ready img r₀ m₀ → Stands n r₀ m₀
+  stands-first h y =
+      record {
+        same = refl;
+        some = h;
+        most = omega arith;
+        ready = λ xs q. y;
+        run = λ xs q x last k. let z : k + (n - n) ≡ k = omega arith in rw z (run-last n img rs x last k r₀ xs m₀ h);
+      }
+
+  -- ---- after the instruction
+  module _ {left : ℕ} {r : Registers} {m : Memory} (t : Stands left r m) {v : MadeOf} (is : v ≡ instructionOf img r rs m) where
+    one : (xs : List ℕ) → Quiet xs → v ≡ oneOf img r xs rs m
+    one xs q = is ∙ quiet-one img r xs rs m (rw (t .same) q)
+
+    requests : (xs : List ℕ) → Quiet xs → requestsOf r xs ≡ xs
+    requests xs q = quiet-requests img r xs rs m (rw (t .same) q)
+
+    ready : (xs : List ℕ) → Quiet xs → Ready img (v .registers) (v .memory)
+    ready xs q = ready-next (t .ready xs q) xs rs v (one xs q)
+
+    before : left ≡ suc (left - 1)
+    before = let h = t .some in omega arith
+
+    stopped : (s : Stop) → v .ending ≡ ending.Stopped s → Paces n img rs r₀ m₀ (paced (ending.Stopped s) left) (v .registers) (v .memory)
+    stopped s e =
+        record {
+          most = t .most;
+          some = λ f z. absurd (let y : _≡_ {A = ℕ} 0 1 = cc in omega arith);
+          ready = ready;
+          run = λ xs q last k.
+              run-stopped (t .ready xs q) xs rs v (one xs q) (left - 1) (k + (n - left)) (outcome.Made last) s e
+              ∙ subst (λ (l : ℕ). runFrom l img rs (outcome.Made last) (k + (n - left)) r xs m ≡ runFrom n img rs (outcome.Made last) k r₀ xs m₀) before (t .run xs q (outcome.Made last) (outcome.Made last) k);
+        }
+
+    -- a step made, and the run from there
+    onward : (f : Event) → v .ending ≡ ending.Made f → (xs : List ℕ) → Quiet xs → (last : Outcome) (k : ℕ)
+        → runFrom (left - 1) img rs (outcome.Made f) (k + (n - (left - 1))) (v .registers) xs (v .memory) ≡ runFrom n img rs last k r₀ xs m₀
+    onward f e xs q last k =
+        let h = t .some in
+        let l = t .most in
+        let z : k + (n - left) + 1 ≡ k + (n - (left - 1)) = omega arith in
+        let step = rw (requests xs q, z) at (run-made (t .ready xs q) xs rs v (one xs q) (left - 1) (k + (n - left)) last f e) in
+        step ∙ subst (λ (l : ℕ). runFrom l img rs last (k + (n - left)) r xs m ≡ runFrom n img rs last k r₀ xs m₀) before (t .run xs q last last k)
+
+    made-one : (f : Event) → v .ending ≡ ending.Made f → Paces n img rs r₀ m₀ (paced (ending.Made f) (left - 1)) (v .registers) (v .memory)
+    made-one f e =
+        let h = t .some in
+        let l = t .most in
+        record {
+          most = omega arith;
+          some = λ g z. omega arith;
+          ready = ready;
+          run = λ xs q last k. onward f e xs q (outcome.Made last) k;
+        }
+
+    -- it stopped, or some steps end with it
+    pub ends-stopped : (x : Ending) → v .ending ≡ x → (s : Stop) → x ≡ ending.Stopped s → Paces n img rs r₀ m₀ (paced x left) (v .registers) (v .memory)
+    ends-stopped x e s f = rw f (stopped s (e ∙ f))
+
+    pub ends-made : (x : Ending) → v .ending ≡ x → (f : Event) → x ≡ ending.Made f → Paces n img rs r₀ m₀ (paced x (left - 1)) (v .registers) (v .memory)
+    ends-made x e f g = rw g (made-one f (e ∙ g))
+
+    pub ends-after : Paces n img rs r₀ m₀ (pacedAfter (v .ending) left) (v .registers) (v .memory)
+    ends-after = by (v .ending) refl
+      where
+        by : (x : Ending) → v .ending ≡ x → Paces n img rs r₀ m₀ (pacedAfter x left) (v .registers) (v .memory)
+        by (ending.Made f) e = made-one f e
+        by (ending.Stopped s) e = stopped s e
+
+    -- or there are more
+    pub stands-next : v .ending ≡ ending.Made event.Instruction → icr (v .registers) ≡ icr r → 0 < left - 1 → Stands (left - 1) (v .registers) (v .memory)
+    stands-next e i h =
+        let l = t .most in
+        record {
+          same = i ∙ t .same;
+          some = h;
+          most = omega arith;
+          ready = ready;
+          run = λ xs q x last k. run-last (left - 1) img rs x (outcome.Made event.Instruction) (k + (n - (left - 1))) (v .registers) xs (v .memory) h ∙ onward event.Instruction e xs q last k;
+        }
+
+  -- ---- in a span
+  module _ (s : Span) where
+    pub record Walk (left k : ℕ) (r : Registers) (m : Memory) : Type 0 where
+      pub stands : Stands left r m
+      pub span : SpanHolds img (r .core) rs s
+      pub inside : k < s .records
+      pub at : pc r ≡ s .from + 4 * k
+
+    pub walk-first : 0 < n → Ready img r₀ m₀ → SpanHolds img (r₀ .core) rs s → s .from ≡ pc r₀ → 0 < s .records → Walk n 0 r₀ m₀
+    walk-first h y p e l = record { stands = stands-first h y; span = p; inside = l; at = omega arith }
+
+    pub walk-is : {left k : ℕ} {r : Registers} {m : Memory} → Walk left k r m → {i : Instruction} → i ≡ instructionAt img (s .at + 8 * k) (pc r) → {v : MadeOf} → v ≡ executeOf i r rs m → v ≡ instructionOf img r rs m
+    walk-is {left} {k} {r} {m} t e h = h ∙ ap (λ (i : Instruction). executeOf i r rs m) e ∙ in-span r (t .span) k (t .inside) (t .at) m
+
+    pub walk-next : {left k : ℕ} {r : Registers} {m : Memory} → Walk left k r m → {v : MadeOf} → v ≡ instructionOf img r rs m → (x : Executed) → v .ending ≡ endingOf x → isSteady x ≡ true → Kept x r (v .registers) → 0 < left - 1
+        → (j : ℕ) → IndexSays (s .from) (pc (v .registers)) j → j < s .records → Walk (left - 1) j (v .registers) (v .memory)
+    walk-next {left} {k} {r} {m} t {v} is executed.Steady e z x h j i l =
+        let p = t .span in
+        record {
+          stands = stands-next (t .stands) is e (x .interrupts) h;
+          span = span-steady r p (v .registers) x;
+          inside = l;
+          at = i (s .records) (omega (arith, p .most)) (omega (arith, p .below)) l;
+        }
+    walk-next t is (executed.Ended y) e z x h j i l = absurd (never (sym z))

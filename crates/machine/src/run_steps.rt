@@ -1,0 +1,237 @@
+// Steps of an accepted machine, over the register arrays by reference.
+
+use entries::entry::interrupt;
+use entries::entry::trap;
+use events::event::Ending;
+use events::event::Event;
+use events::event::passed_on;
+use execute::ending_of;
+use execute::execute_instruction;
+use execute::steady;
+use image::fetch::index_from;
+use image::fetch::read_record;
+use interrupts::Best;
+use interrupts::best_source;
+use interrupts::clear;
+use interrupts::taken;
+use registers::ICR;
+use registers::PC;
+use spans::Ahead;
+use spans::Span;
+use spans::look_ahead;
+ghost use mathlib.Core.Path.{_≡_};
+ghost use Prim.Native.Nat.{_<_};
+ghost use Rattle.memory.specs.Memory.{memory};
+ghost use Rattle.registers.specs.Registers.{registers, pc};
+ghost use Rattle.protection.specs.Range.{rangesIn};
+ghost use Rattle.machine.specs.Step.{outcomeOf};
+ghost use Rattle.machine.specs.Run.{ran, runFrom};
+ghost use Rattle.machine.specs.Inner.{Foremost, Ready, pacedAfter, Paces};
+ghost use Rattle.spans.specs.Spans.{SpanHolds};
+ghost use Rattle.machine.specs.declared.answer.Outcome.the-variants as outcome;
+ghost use Rattle.events.specs.declared.event.Event.the-variants as event;
+
+// How some steps ended, and how many are left to make.
+pub struct Paced {
+    pub ending: Ending,
+    pub left: u32,
+}
+
+// Instructions of a span from PC on, up to n: to the first that is not steady, or whose successor lies outside the span.
+fn steady_steps(
+    base: u32,
+    window: &mut [u8],
+    image: &[u8],
+    d: &mut [u32; 16],
+    a: &mut [u32; 16],
+    core: &mut [u32; 10],
+    words: &[u32; 96],
+    s: Span,
+    n: u32,
+) -> Paced
+    requires { ⌜ Ready (now image) (registers (now d) (now a) (now core)) (memory base (now window)) ⌝ }
+    requires { ⌜ SpanHolds (now image) (now core) (rangesIn (now words)) s ⌝ }
+    requires { ⌜ (s .from ≡ pc (registers (now d) (now a) (now core))) × (0 < s .records) × (0 < n) ⌝ }
+    ensures { λ r. ⌜ Paces n (now (image .entry)) (rangesIn (now (words .entry))) (registers (now (d .entry)) (now (a .entry)) (now (core .entry))) (memory base (now (window .entry))) r (registers (now (d .exit)) (now (a .exit)) (now (core .exit))) (memory base (now (window .exit))) ⌝ }
+{
+    let mut left = n;
+    let mut k: u32 = 0;
+    loop {
+        let i = read_record(image, s.at + 8 * k as usize, core[PC]);
+        let done = execute_instruction(base, window, d, a, core, words, i);
+        let ending = ending_of(done);
+        let Ending::Made(_) = ending else {
+            return Paced {
+                ending: ending,
+                left: left,
+            };
+        };
+        left -= 1;
+        if left == 0 {
+            return Paced {
+                ending: ending,
+                left: left,
+            };
+        }
+        if !steady(done) {
+            return Paced {
+                ending: ending,
+                left: left,
+            };
+        }
+        k = index_from(s.from, core[PC]);
+        if s.records <= k {
+            return Paced {
+                ending: ending,
+                left: left,
+            };
+        }
+    }
+}
+
+// One step of n that ended so.
+fn after_one(ending: Ending, n: u32) -> Paced
+    requires { ⌜ 0 < n ⌝ }
+    ensures { λ r. ⌜ r ≡ pacedAfter ending n ⌝ }
+{
+    match ending {
+        Ending::Made(e) => Paced {
+            ending: Ending::Made(e),
+            left: n - 1,
+        },
+        Ending::Stopped(s) => Paced {
+            ending: Ending::Stopped(s),
+            left: n,
+        },
+    }
+}
+
+// Up to n instructions, where no interrupt is taken before the first: at least one, unless it stops.
+fn instructions(
+    base: u32,
+    window: &mut [u8],
+    image: &[u8],
+    d: &mut [u32; 16],
+    a: &mut [u32; 16],
+    core: &mut [u32; 10],
+    words: &[u32; 96],
+    n: u32,
+) -> Paced
+    requires { ⌜ Ready (now image) (registers (now d) (now a) (now core)) (memory base (now window)) ⌝ }
+    requires { ⌜ 0 < n ⌝ }
+    ensures { λ r. ⌜ Paces n (now (image .entry)) (rangesIn (now (words .entry))) (registers (now (d .entry)) (now (a .entry)) (now (core .entry))) (memory base (now (window .entry))) r (registers (now (d .exit)) (now (a .exit)) (now (core .exit))) (memory base (now (window .exit))) ⌝ }
+{
+    match look_ahead(image, core, words) {
+        Ahead::Traps(t) => {
+            let pc = core[PC];
+            after_one(trap(base, window, d, a, core, t, pc), n)
+        }
+        Ahead::Records(s) => steady_steps(base, window, image, d, a, core, words, s, n),
+    }
+}
+
+// The best source at the start of n steps. A single step with IE 0 takes none, and the sources are not looked through for it.
+fn first_source(sources: &[u32; 16], icr: u32, n: u32) -> Best
+    ensures { λ r. ⌜ Foremost n icr (now (sources .entry)) r ⌝ }
+{
+    if n == 1 {
+        if !fields::icr::enabled(icr) {
+            return Best {
+                source: 16,
+                level: 0,
+            };
+        }
+    }
+    best_source(sources)
+}
+
+// How a run ended, and the steps made.
+pub struct Went {
+    pub ending: Ending,
+    pub made: u32,
+}
+
+// n steps, to the first stop.
+fn run_by_reference(
+    base: u32,
+    window: &mut [u8],
+    image: &[u8],
+    d: &mut [u32; 16],
+    a: &mut [u32; 16],
+    core: &mut [u32; 10],
+    requests: &mut [u32; 16],
+    words: &[u32; 96],
+    n: u32,
+) -> Went
+    requires { ⌜ Ready (now image) (registers (now d) (now a) (now core)) (memory base (now window)) ⌝ }
+    ensures { λ r. ⌜ ran (outcomeOf (r .ending)) (r .made) (registers (now (d .exit)) (now (a .exit)) (now (core .exit))) (now (requests .exit)) (memory base (now (window .exit))) ≡ runFrom n (now (image .entry)) (rangesIn (now (words .entry))) (outcome.Made event.Instruction) 0 (registers (now (d .entry)) (now (a .entry)) (now (core .entry))) (now (requests .entry)) (memory base (now (window .entry))) ⌝ }
+{
+    let mut best = first_source(requests, core[ICR], n);
+    let mut last = Event::Instruction;
+    let mut left = n;
+    while left != 0 {
+        if taken(core[ICR], best.level) {
+            let ending = passed_on(interrupt(base, window, d, a, core, best.source, best.level));
+            let Ending::Made(e) = ending else {
+                return Went {
+                    ending: ending,
+                    made: n - left,
+                };
+            };
+            last = e;
+            left -= 1;
+            clear(requests, best.source);
+            best = best_source(requests);
+            continue;
+        }
+        let p = instructions(base, window, image, d, a, core, words, left);
+        let ending = p.ending;
+        let Ending::Made(e) = ending else {
+            return Went {
+                ending: ending,
+                made: n - p.left,
+            };
+        };
+        last = e;
+        left = p.left;
+    }
+    Went {
+        ending: Ending::Made(last),
+        made: n,
+    }
+}
+
+// The same. The registers are copied: the loop then works on variables that nothing else that is lent can overlap.
+pub fn run_steps(
+    base: u32,
+    window: &mut [u8],
+    image: &[u8],
+    d: &mut [u32; 16],
+    a: &mut [u32; 16],
+    core: &mut [u32; 10],
+    requests: &mut [u32; 16],
+    words: &[u32; 96],
+    n: u32,
+) -> Went
+    requires { ⌜ Ready (now image) (registers (now d) (now a) (now core)) (memory base (now window)) ⌝ }
+    ensures { λ r. ⌜ ran (outcomeOf (r .ending)) (r .made) (registers (now (d .exit)) (now (a .exit)) (now (core .exit))) (now (requests .exit)) (memory base (now (window .exit))) ≡ runFrom n (now (image .entry)) (rangesIn (now (words .entry))) (outcome.Made event.Instruction) 0 (registers (now (d .entry)) (now (a .entry)) (now (core .entry))) (now (requests .entry)) (memory base (now (window .entry))) ⌝ }
+{
+    let mut own_d = *d;
+    let mut own_a = *a;
+    let mut own_core = *core;
+    let w = run_by_reference(
+        base,
+        window,
+        image,
+        &mut own_d,
+        &mut own_a,
+        &mut own_core,
+        requests,
+        words,
+        n,
+    );
+    *d = own_d;
+    *a = own_a;
+    *core = own_core;
+    w
+}

@@ -1,0 +1,2 @@
+-- Laws of permits.
+pub mod Permitting

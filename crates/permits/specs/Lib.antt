@@ -1,0 +1,2 @@
+-- The permitting ranges.
+pub mod Permits

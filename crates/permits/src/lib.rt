@@ -1,0 +1,135 @@
+// The ranges that permit a step's fetch and its data access.
+
+use image::fetch::rest_at;
+use interrupts::best_source;
+use interrupts::taken;
+use memory::word_at;
+use operations::Access;
+use operations::access_of;
+use protection::access::Check;
+use protection::access::check_access;
+use protection::range::Found;
+use protection::range::Right;
+use protection::range::search;
+use registers::ICR;
+use registers::PC;
+use registers::PSW;
+use registers::SYSCON;
+use registers::plus;
+ghost use mathlib.Core.Path.{_≡_};
+ghost use mathlib.Core.List.{List};
+ghost use Prim.Native.Nat.{ℕ, _+_, _≤_};
+ghost use lib.ListN.{length};
+ghost use Rattle.registers.specs.Registers.{registers};
+ghost use Rattle.protection.specs.Range.{rangesIn};
+ghost use Rattle.image.specs.Records.{ImageHolds};
+ghost use Rattle.image.specs.Fetch.{instructionAt, FieldsHold};
+ghost use Rattle.permits.specs.Permits.{access, dataIn, dataAt, fetchAsked, dataAsked, PermitSays};
+
+// The range that permitted an access, by its number, where protection asked and one did.
+pub enum Permit {
+    Unasked,
+    By(usize),
+}
+
+pub struct Permits {
+    pub fetch: Permit,
+    pub data: Permit,
+}
+
+// A range that permits the access, where the ranges are asked and one does.
+fn permit_for(core: &[u32; 10], words: &[u32; 96], right: Right, address: u32) -> Permit
+    ensures { λ r. ⌜ ((d a : List ℕ) → PermitSays (registers d a (now (core .entry))) (rangesIn (now (words .entry))) (access right address) r) ⌝ }
+{
+    if 0xE000_0000 <= address {
+        return Permit::Unasked;
+    }
+    if !fields::syscon::protection(core[SYSCON]) {
+        return Permit::Unasked;
+    }
+    match search(
+        words,
+        fields::psw::protection_set(core[PSW]),
+        right,
+        address,
+    ) {
+        Found::Nothing => Permit::Unasked,
+        Found::By(k) => Permit::By(k),
+    }
+}
+
+// Of the data access of the record at byte `at` of the image, which begins at pc.
+fn permit_record(
+    image: &[u8],
+    a: &[u32; 16],
+    core: &[u32; 10],
+    words: &[u32; 96],
+    at: usize,
+    pc: u32,
+) -> Permit
+    requires { ⌜ (at + 8 ≤ length (now image)) × FieldsHold (instructionAt (now image) at pc) ⌝ }
+    ensures { λ r. ⌜ ((d : List ℕ) → PermitSays (registers d (now (a .entry)) (now (core .entry))) (rangesIn (now (words .entry))) (dataIn (instructionAt (now (image .entry)) at pc) (registers d (now (a .entry)) (now (core .entry)))) r) ⌝ }
+{
+    let x = wide(image[at + 2]);
+    let address = plus(a[x], word_at(image, at + 4));
+    match access_of(image[at]) {
+        Access::Nothing => Permit::Unasked,
+        Access::Read => permit_for(core, words, Right::Read, address),
+        Access::Write => permit_for(core, words, Right::Write, address),
+    }
+}
+
+fn wide(b: u8) -> usize
+    ensures { λ r. ⌜ r ≡ b ⌝ }
+{
+    b as usize
+}
+
+// Of the data access of the instruction at PC.
+fn permit_data(image: &[u8], a: &[u32; 16], core: &[u32; 10], words: &[u32; 96]) -> Permit
+    requires { ⌜ ImageHolds (now image) ⌝ }
+    ensures { λ r. ⌜ ((d : List ℕ) → PermitSays (registers d (now (a .entry)) (now (core .entry))) (rangesIn (now (words .entry))) (dataAt (now (image .entry)) (registers d (now (a .entry)) (now (core .entry))) (rangesIn (now (words .entry)))) r) ⌝ }
+{
+    let pc = core[PC];
+    match check_access(core, words, Right::Execute, pc) {
+        Check::Fails(_) => Permit::Unasked,
+        Check::Passes => {
+            let rest = rest_at(image, pc);
+            if rest.records == 0 {
+                return Permit::Unasked;
+            }
+            permit_record(image, a, core, words, rest.at, pc)
+        }
+    }
+}
+
+// Of a step with these registers and requests.
+pub fn permits_of(
+    image: &[u8],
+    a: &[u32; 16],
+    core: &[u32; 10],
+    requests: &[u32; 16],
+    words: &[u32; 96],
+) -> Permits
+    requires { ⌜ ImageHolds (now image) ⌝ }
+    ensures { λ r. ⌜ ((d : List ℕ) → PermitSays (registers d (now (a .entry)) (now (core .entry))) (rangesIn (now (words .entry))) (fetchAsked (registers d (now (a .entry)) (now (core .entry))) (now (requests .entry))) (r .fetch)) ⌝ }
+    ensures { λ r. ⌜ ((d : List ℕ) → PermitSays (registers d (now (a .entry)) (now (core .entry))) (rangesIn (now (words .entry))) (dataAsked (now (image .entry)) (registers d (now (a .entry)) (now (core .entry))) (now (requests .entry)) (rangesIn (now (words .entry)))) (r .data)) ⌝ }
+{
+    if !fields::syscon::protection(core[SYSCON]) {
+        return Permits {
+            fetch: Permit::Unasked,
+            data: Permit::Unasked,
+        };
+    }
+    let best = best_source(requests);
+    if taken(core[ICR], best.level) {
+        return Permits {
+            fetch: Permit::Unasked,
+            data: Permit::Unasked,
+        };
+    }
+    Permits {
+        fetch: permit_for(core, words, Right::Execute, core[PC]),
+        data: permit_data(image, a, core, words),
+    }
+}

@@ -1,0 +1,2 @@
+-- Records that are fetched one after the other.
+pub mod Spans
