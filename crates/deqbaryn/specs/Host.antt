@@ -89,3 +89,7 @@ ranAnswer v = outcomeAnswer (v .outcome) 0 (v .made)
 
 abbrev pub runAnswer : ℕ → List ℕ → Memory → List ℕ → ℕ
 runAnswer n bytes m img = cond (isRecord bytes) (ranAnswer (runOn n bytes m img)) wrongLength
+
+-- where no step is made, record and window are as they were, byte for byte
+abbrev pub UnmadeKeeps : ℕ → List ℕ → Memory → List ℕ → Left → Type 0
+UnmadeKeeps n bytes m img after = runOn n bytes m img .made ≡ 0 → after ≡ left bytes m

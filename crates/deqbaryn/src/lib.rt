@@ -20,7 +20,7 @@ use registers::Registers;
 ghost use mathlib.Core.Path.{_≡_};
 ghost use lib.ListN.{length};
 ghost use Rattle.memory.specs.Memory.{memory};
-ghost use Rattle.deqbaryn.specs.Host.{startAnswer, stepStored, runStored, left, stepLeft, runLeft, StepAnswers, runAnswer};
+ghost use Rattle.deqbaryn.specs.Host.{startAnswer, stepStored, runStored, left, stepLeft, runLeft, StepAnswers, runAnswer, UnmadeKeeps};
 
 // Whether the start is accepted, with PC, FCX and PCXI of the record.
 #[no_mangle]
@@ -97,6 +97,7 @@ pub extern "C" fn deqbaryn_run(
 ) -> u64
     ensures { λ _. ⌜ left (now (core .exit)) (memory base (now (window .exit))) ≡ runLeft n (now (core .entry)) (memory base (now (window .entry))) (now (image .entry)) ⌝ }
     ensures { λ r. ⌜ r ≡ runAnswer n (now (core .entry)) (memory base (now (window .entry))) (now (image .entry)) ⌝ }
+    ensures { λ _. ⌜ UnmadeKeeps n (now (core .entry)) (memory base (now (window .entry))) (now (image .entry)) (left (now (core .exit)) (memory base (now (window .exit)))) ⌝ }
 {
     if core.len() != 616 {
         return wrong_length();

@@ -3,3 +3,4 @@ pub mod Turns
 pub mod Walks
 pub mod Loops
 pub mod Singles
+pub mod Unmade

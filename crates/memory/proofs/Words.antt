@@ -6,7 +6,7 @@ use mathlib.Core.List.{List, _∷_}
 use Prim.Native.Nat.{ℕ, zero, suc, _+_, _*_, _/_, _%_, _^_, _≤_, _<_}
 use native.Mathlib.Omega.{arith}
 use lib.ListN.{length, getD, set, length-set}
-use lib.Seq.{getD-set-same, getD-set-other}
+use lib.Seq.{getD-set-same, getD-set-other, set-getD}
 use native.Mathlib.Nat.{zero-add, lt-of-not-le}
 use native.Mathlib.Decide.{decLe}
 use native.Mathlib.Numerals.{add-one}
@@ -117,3 +117,37 @@ pub wordsAt-length : (s : List ℕ) (i n : ℕ) → length (wordsAt s i n) ≡ n
 unfolding wordsAt
 wordsAt-length s i zero = refl
 wordsAt-length s i (suc n) = ap suc (wordsAt-length s (i + 4) n)
+
+-- word k of those from byte i on
+pub words-at : (s : List ℕ) (n i k : ℕ) → k < n → getD (wordsAt s i n) k 0 ≡ wordAt s (i + 4 * k)
+unfolding wordsAt
+words-at s zero i k h = absurd (omega arith)
+words-at s (suc n) i zero h = let e : i ≡ i + 4 * 0 = omega arith in ap (wordAt s) e
+words-at s (suc n) i (suc k) h = let e : i + 4 + 4 * k ≡ i + 4 * suc k = omega arith in words-at s n (i + 4) k (omega arith) ∙ ap (wordAt s) e
+
+-- ---- words that are written where they were read change nothing
+low-digit : (x c d : ℕ) → x ≡ c + 0x100 * d → c < 2 ^ 8 → x % 0x100 ≡ c
+low-digit x c d e h = omega arith
+
+module _ (s : List ℕ) (bytes : (k : ℕ) → getD s k 0 < 2 ^ 8) where
+  pub putWord-kept : (i : ℕ) → putWord s i (wordAt s i) ≡ s
+  unfolding putWord wordAt
+  putWord-kept i =
+      let w = wordAt s i in
+      let b0 = bytes i in
+      let b1 = bytes (i + 1) in
+      let b2 = bytes (i + 2) in
+      let b3 = bytes (i + 3) in
+      let e0 : w % 0x100 ≡ getD s i 0 = omega arith in
+      let e1 : w / 0x100 % 0x100 ≡ getD s (i + 1) 0 = low-digit _ _ (getD s (i + 2) 0 + 0x100 * getD s (i + 3) 0) (omega arith) b1 in
+      let e2 : w / 0x1_0000 % 0x100 ≡ getD s (i + 2) 0 = low-digit _ _ (getD s (i + 3) 0) (omega arith) b2 in
+      let e3 : w / 0x100_0000 ≡ getD s (i + 3) 0 = omega arith in
+      rw (e0, set-getD s i 0, e1, set-getD s (i + 1) 0, e2, set-getD s (i + 2) 0, e3) (set-getD s (i + 3) 0)
+
+  each-kept : (i : ℕ) (ws : List ℕ) (n : ℕ) → ((k : ℕ) → k < n → getD ws k 0 ≡ wordAt s (i + 4 * k)) → putWords s i ws n ≡ s
+  unfolding putWords
+  each-kept i ws zero h = refl
+  each-kept i ws (suc n) h = rw (each-kept i ws n (λ k l. h k (omega arith)), h n (omega arith)) (putWord-kept (i + 4 * n))
+
+  pub putWords-kept : (i n : ℕ) → putWords s i (wordsAt s i n) n ≡ s
+  putWords-kept i n = each-kept i (wordsAt s i n) n (words-at s n i)

@@ -1,2 +1,3 @@
 -- Laws of the core record.
 pub mod Readings
+pub mod Kept

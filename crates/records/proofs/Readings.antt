@@ -1,6 +1,6 @@
 -- The loops that read words and ranges, and those that write words.
 -- Assumes nothing.
-use Prim.Native.Nat.{ℕ, zero, suc, _+_, _*_, _<_}
+use Prim.Native.Nat.{ℕ, _+_, _*_, _<_}
 use native.Mathlib.Omega.{arith}
 use native.Mathlib.Decide.{ℕ-discrete}
 use mathlib.Core.Path.{_≡_, sym, ap, _∙_}
@@ -8,17 +8,10 @@ use mathlib.Core.List.{List}
 use lib.ListN.{length, getD, set}
 use lib.Seq.{getD-set-same, getD-set-other, ext-getD}
 use Rattle.memory.specs.Word.{wordAt, wordsAt, putWord, putWords}
-use Rattle.memory.proofs.Words.{wordsAt-length, putWords-suc}
+use Rattle.memory.proofs.Words.{wordsAt-length, words-at, putWords-suc}
 use Rattle.protection.specs.Range.{rangeAt, rangesIn, noRange}
 use Rattle.protection.specs.declared.range.Range.{Range}
 use Rattle.protection.proofs.Ranges.{ranges-at}
-
--- word k of those from byte i on
-pub words-at : (s : List ℕ) (n i k : ℕ) → k < n → getD (wordsAt s i n) k 0 ≡ wordAt s (i + 4 * k)
-unfolding wordsAt
-words-at s zero i k h = absurd (omega arith)
-words-at s (suc n) i zero h = let e : i ≡ i + 4 * 0 = omega arith in ap (wordAt s) e
-words-at s (suc n) i (suc k) h = let e : i + 4 + 4 * k ≡ i + 4 * suc k = omega arith in words-at s n (i + 4) k (omega arith) ∙ ap (wordAt s) e
 
 -- ---- words
 -- those below k are read
