@@ -47,9 +47,6 @@ same-area h l h' l' hl hl' a b =
     let d : h' * 2 ^ 22 + l' ≤ h * 2 ^ 22 + l = omega arith in
     (omega arith, omega arith)
 
-link-parts : (n : ℕ) → n < 2 ^ 20 → n ≡ n / 2 ^ 16 % 16 * 2 ^ 16 + n % 2 ^ 16
-link-parts n h = omega arith
-
 same-link : (n k : ℕ) → n < 2 ^ 20 → k < 2 ^ 20 → n / 2 ^ 16 % 16 ≡ k / 2 ^ 16 % 16 → n % 2 ^ 16 ≡ k % 2 ^ 16 → n ≡ k
 same-link n k hn hk p q = omega arith
 

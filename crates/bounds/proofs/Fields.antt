@@ -12,7 +12,6 @@ use Rattle.fields.specs.Psw.{PSW·C, PSW·SV, PSW·SAV, statusOf, flaggedOf, ov
 use Rattle.fields.specs.Depth.{counts, calledOf}
 use Rattle.fields.specs.Icr.{ICR·IE, icrOf}
 use Rattle.fields.specs.Pcxi.{PCXI·UL, pcxiOf}
-use Rattle.fields.specs.Request.{clearedOf}
 use Rattle.fields.proofs.Flags.{number-le}
 use Rattle.fields.proofs.Counters.{below}
 
@@ -65,10 +64,6 @@ tested false = refl
 pub pcxi-ul : (icr : ℕ) (ul : Bool) (fcx : ℕ) → PCXI·UL (pcxiOf icr ul fcx) ≡ ul
 unfolding pcxiOf isSet bit
 pcxi-ul icr ul fcx = rw (ul-bit (icr % 2 ^ 8) (number (ICR·IE icr)) (number ul) (fcx % 2 ^ 20) (number-le ul) (omega arith)) (tested ul)
-
-pub cleared-word : (src : ℕ) → src < 2 ^ 32 → clearedOf src < 2 ^ 32
-unfolding clearedOf
-cleared-word src h = omega arith
 
 pub and-word : (x y : ℕ) → x < 2 ^ 32 → y < 2 ^ 32 → bitAnd x y < 2 ^ 32
 and-word x y h k = and-lt 32 x y h k

@@ -243,9 +243,6 @@ module _ (m : Memory) (small : length (m .bytes) ≤ 65536) (fcx pcxi : ℕ) whe
   lists-only e f (at-used g i) (at-used h j) =
       comes-alike m (g .met) (h .met) (comes-links m [] [] refl (linkOf fcx) Whole Whole g h) (linkOf pcxi) e f i j
 
-  pub lists-are : (e : ListEnd) → ListsCome m fcx pcxi e → listsOf m fcx pcxi ≡ e
-  lists-are e h = lists-only (listsOf m fcx pcxi) e lists-come h
-
   -- whole lists are sound ones: rules 5 and 6 hold
   pub sound-of : ListsCome m fcx pcxi Whole → Sound m fcx pcxi
   sound-of (at-free d g) = absurd (d refl)
