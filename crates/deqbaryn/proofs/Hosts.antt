@@ -1,7 +1,8 @@
 -- The calls of the host library from the machine's own: a record of another length, and one of 616 bytes.
 -- Assumes nothing.
 use Prim.Native.Nat.{ℕ, _^_, _<_}
-use mathlib.Core.Path.{_≡_, refl, ap, _∙_}
+use native.Mathlib.Omega.{arith}
+use mathlib.Core.Path.{_≡_, refl, sym, ap, subst, _∙_}
 use mathlib.Core.Bool.{Bool, true, false, cond}
 use mathlib.Core.List.{List}
 use lib.ListN.{length, getD}
@@ -12,34 +13,66 @@ use Rattle.registers.specs.declared.Registers.{Registers}
 use Rattle.protection.specs.declared.range.Range.{Range}
 use Rattle.inputs.specs.Checks.{startVerdict}
 use Rattle.inputs.specs.declared.verdict.Verdict.{Verdict}
-use Rattle.machine.specs.Step.{stepped, stepOf}
-use Rattle.machine.specs.Run.{ran, runOf}
+use Rattle.inputs.specs.declared.verdict.Verdict.the-variants as verdict
+use Rattle.decisions.specs.Valid.{Words}
+use Rattle.machine.specs.Step.{StepOf, stepped, stepOf}
+use Rattle.machine.specs.Run.{RunOf, ran, runOf, RefusedKeeps}
 use Rattle.permits.specs.Permits.{fetchOfStep, dataOfStep, PermitSays}
 use Rattle.machine.specs.declared.answer.Outcome.{Outcome}
 use Rattle.machine.specs.declared.answer.Outcome.the-variants.{Made, Stopped, Refused}
-use Rattle.machine.proofs.Unmade.{none-made}
+use Rattle.machine.proofs.Unmade.{Unmoved, unmoved, none-made}
 use Rattle.permits.specs.declared.Permit.{Permit}
-use Rattle.records.specs.CoreRecord.{registersIn, requestsIn, rangesOf}
-use Rattle.records.proofs.Kept.{stored-kept}
-use Rattle.answers.specs.Answers.{permitsNumber, outcomeAnswer, wrongLength, verdictAnswer}
-use Rattle.deqbaryn.specs.Host.{isRecord, startAnswer, left, stepStored, runStored, stepLeft, StepAnswer, StepAnswers, runOn, afterRun, runLeft, runAnswer, UnmadeKeeps}
+use Rattle.series.specs.Calls.{state}
+use Rattle.series.specs.Claim.{Follows}
+use Rattle.records.specs.CoreRecord.{registersIn, requestsIn, rangesOf, storedIn}
+use Rattle.records.proofs.Kept.{stored-kept, registers-back}
+use Rattle.answers.specs.Answers.{packedOf, permitsNumber, outcomeAnswer, wrongLength, verdictAnswer}
+use Rattle.deqbaryn.specs.Host.{isRecord, startAnswer, AcceptedFollows, left, stepStored, runStored, stepLeft, StepAnswer, StepAnswers, StepHolds, runOn, afterRun, runLeft, runAnswer, RunHolds, UnmadeKeeps}
+
+-- only a start that is accepted is answered so
+accepted : (v : Verdict) → verdictAnswer v ≡ verdictAnswer verdict.Accepted → v ≡ verdict.Accepted
+unfolding packedOf
+accepted verdict.Accepted e = refl
+accepted (verdict.Refused x) e = absurd (omega arith)
+
+wrong-differs : wrongLength ≡ verdictAnswer verdict.Accepted → ⊥
+unfolding packedOf
+wrong-differs e = omega arith
+
+-- ---- what is stored is read back
+module _ (bytes : List ℕ) (l : length bytes ≡ 616) (q : Registers) (w : Words 16 (q .d) × Words 16 (q .a) × Words 10 (q .core)) (ys : List ℕ) where
+  back : registersIn (storedIn q ys bytes) ≡ q
+  back = registers-back q ys bytes l (w .0 .size, w .0 .each) (w .1 .size, w .1 .each) (w .2 .size, w .2 .each)
+
+  module _ {r : Registers} (reg : r ≡ registersIn bytes) (xs : List ℕ) (m after : Memory) where
+    step-stored : (img : List ℕ) (rs : List Range) (o : Outcome) → Unmoved img r xs rs m o (stepped o q ys after) → registersIn (stepStored o q ys bytes) ≡ q
+    step-stored img rs (Made e) u = back
+    step-stored img rs (Stopped x) u = sym (u .registers ∙ reg)
+    step-stored img rs (Refused x) u = sym (u .registers ∙ reg)
+
+    run-stored : (o : Outcome) (made : ℕ) → RefusedKeeps r xs m (ran o made q ys after) → registersIn (runStored o q ys bytes) ≡ q
+    run-stored (Made e) made u = back
+    run-stored (Stopped x) made u = back
+    run-stored (Refused x) made u = sym (ap (λ (v : RunOf). v .registers) (u x refl) ∙ reg)
 
 module _ (bytes : List ℕ) (m : Memory) (img : List ℕ) where
   -- ---- a record of another length
   module _ (w : length bytes ≡ 616 → ⊥) {n : ℕ} (is : n ≡ wrongLength) where
-    pub start-wrong : n ≡ startAnswer bytes m img
-    start-wrong = rw (ne-eqb (length bytes) 616 w) is
+    pub start-wrong : (n ≡ startAnswer bytes m img) × AcceptedFollows bytes m n
+    start-wrong = (rw (ne-eqb (length bytes) 616 w) is, λ e. absurd (wrong-differs (sym is ∙ e)))
 
-    pub step-wrong : (left bytes m ≡ stepLeft bytes m img) × StepAnswers bytes m img n
-    step-wrong = (rw (ne-eqb (length bytes) 616 w), rw (ne-eqb (length bytes) 616 w) is)
+    pub step-wrong : (left bytes m ≡ stepLeft bytes m img) × (StepAnswers bytes m img n × StepHolds bytes m img bytes)
+    step-wrong = (rw (ne-eqb (length bytes) 616 w), (rw (ne-eqb (length bytes) 616 w) is, λ l. absurd (w l)))
 
-    pub run-wrong : (k : ℕ) → (left bytes m ≡ runLeft k bytes m img) × (n ≡ runAnswer k bytes m img)
-    run-wrong k = (rw (ne-eqb (length bytes) 616 w), rw (ne-eqb (length bytes) 616 w) is)
+    pub run-wrong : (k : ℕ) → (left bytes m ≡ runLeft k bytes m img) × (n ≡ runAnswer k bytes m img) × RunHolds k bytes m img bytes
+    run-wrong k = (rw (ne-eqb (length bytes) 616 w), rw (ne-eqb (length bytes) 616 w) is, λ l. absurd (w l))
 
   -- ---- a record, with what is read from it
   module _ (l : length bytes ≡ 616) {r : Registers} (reg : r ≡ registersIn bytes) where
-    pub start-right : {v : Verdict} {n : ℕ} → v ≡ startVerdict m img (pc r) (fcx r) (pcxi r) → n ≡ verdictAnswer v → n ≡ startAnswer bytes m img
-    start-right said is = rw (eq-eqb (length bytes) 616 l, ← reg) (is ∙ ap verdictAnswer said)
+    pub start-right : {v : Verdict} {n : ℕ} → v ≡ startVerdict m img (pc r) (fcx r) (pcxi r) → (v ≡ verdict.Accepted → Follows (state r m)) → n ≡ verdictAnswer v
+        → (n ≡ startAnswer bytes m img) × AcceptedFollows bytes m n
+    start-right {v} said follows is =
+        (rw (eq-eqb (length bytes) 616 l, ← reg) (is ∙ ap verdictAnswer said), λ e. rw (← reg) (follows (accepted v (sym is ∙ e))))
 
     module _ {xs : List ℕ} (req : xs ≡ requestsIn bytes) {rs : List Range} (rng : rs ≡ rangesOf bytes) {o : Outcome} {q : Registers} {ys : List ℕ} {after : Memory} where
       module _ (s : stepped o q ys after ≡ stepOf img r xs rs m) where
@@ -60,13 +93,26 @@ module _ (bytes : List ℕ) (m : Memory) (img : List ℕ) where
                   is = rw (← reg, ← req, ← rng, ← s) is;
                 }
 
-        pub step-right : {core : List ℕ} → core ≡ stepStored o q ys bytes → (f d : Permit) → PermitSays r rs (fetchOfStep img r xs m) f → PermitSays r rs (dataOfStep img r xs rs m) d
-            → {n : ℕ} → n ≡ outcomeAnswer o (permitsNumber f d) 0 → (left core after ≡ stepLeft bytes m img) × StepAnswers bytes m img n
-        step-right is f d p p′ e = (step-left is, step-answer f d p p′ e)
+        step-holds : Words 16 (q .d) × Words 16 (q .a) × Words 10 (q .core) → {core : List ℕ} → core ≡ stepStored o q ys bytes → StepHolds bytes m img core
+        step-holds w is _ =
+            rw (← reg, ← req, ← rng, ← s, is)
+            (step-stored bytes l q w ys reg xs m after img rs o (subst (λ (v : StepOf). Unmoved img r xs rs m (v .outcome) v) (sym s) (unmoved img r xs rs m)))
 
-      pub run-right : (k made : ℕ) → ran o made q ys after ≡ runOf k img r xs rs m → {core : List ℕ} → core ≡ runStored o q ys bytes → {n : ℕ} → n ≡ outcomeAnswer o 0 made
-          → (left core after ≡ runLeft k bytes m img) × (n ≡ runAnswer k bytes m img)
-      run-right k made s is e = (rw (eq-eqb (length bytes) 616 l, ← reg, ← req, ← rng, ← s, is), rw (eq-eqb (length bytes) 616 l, ← reg, ← req, ← rng, ← s) e)
+        pub step-right : Words 16 (q .d) × Words 16 (q .a) × Words 10 (q .core) → {core : List ℕ} → core ≡ stepStored o q ys bytes
+            → (f d : Permit) → PermitSays r rs (fetchOfStep img r xs m) f → PermitSays r rs (dataOfStep img r xs rs m) d
+            → {n : ℕ} → n ≡ outcomeAnswer o (permitsNumber f d) 0 → (left core after ≡ stepLeft bytes m img) × (StepAnswers bytes m img n × StepHolds bytes m img core)
+        step-right w is f d p p′ e = (step-left is, (step-answer f d p p′ e, step-holds w is))
+
+      module _ (k made : ℕ) (s : ran o made q ys after ≡ runOf k img r xs rs m) where
+        run-holds : Words 16 (q .d) × Words 16 (q .a) × Words 10 (q .core) → RefusedKeeps r xs m (ran o made q ys after)
+            → {core : List ℕ} → core ≡ runStored o q ys bytes → RunHolds k bytes m img core
+        run-holds w u is _ = rw (← reg, ← req, ← rng, ← s, is) (run-stored bytes l q w ys reg xs m after o made u)
+
+        pub run-right : Words 16 (q .d) × Words 16 (q .a) × Words 10 (q .core) → RefusedKeeps r xs m (ran o made q ys after)
+            → {core : List ℕ} → core ≡ runStored o q ys bytes → {n : ℕ} → n ≡ outcomeAnswer o 0 made
+            → (left core after ≡ runLeft k bytes m img) × (n ≡ runAnswer k bytes m img) × RunHolds k bytes m img core
+        run-right w u is e =
+            (rw (eq-eqb (length bytes) 616 l, ← reg, ← req, ← rng, ← s, is), rw (eq-eqb (length bytes) 616 l, ← reg, ← req, ← rng, ← s) e, run-holds w u is)
 
   -- ---- a run of which no step is made
   module _ (b : (j : ℕ) → getD bytes j 0 < 2 ^ 8) where

@@ -9,12 +9,15 @@ use Rattle.memory.specs.Memory.{Memory}
 use Rattle.registers.specs.Registers.{pc, fcx, pcxi}
 use Rattle.registers.specs.declared.Registers.{Registers}
 use Rattle.inputs.specs.Checks.{startVerdict}
+use Rattle.inputs.specs.declared.verdict.Verdict.the-variants as verdict
 use Rattle.machine.specs.Step.{StepOf, stepOf}
 use Rattle.machine.specs.Run.{RunOf, runOf}
 use Rattle.permits.specs.Permits.{fetchOfStep, dataOfStep, PermitSays}
 use Rattle.machine.specs.declared.answer.Outcome.{Outcome}
 use Rattle.machine.specs.declared.answer.Outcome.the-variants.{Made, Stopped, Refused}
 use Rattle.permits.specs.declared.Permit.{Permit}
+use Rattle.series.specs.Calls.{state}
+use Rattle.series.specs.Claim.{Follows}
 use Rattle.records.specs.CoreRecord.{registersIn, requestsIn, rangesOf, storedIn}
 use Rattle.answers.specs.Answers.{permitsNumber, outcomeAnswer, wrongLength, verdictAnswer}
 
@@ -27,6 +30,10 @@ startOn r m img = verdictAnswer (startVerdict m img (pc r) (fcx r) (pcxi r))
 
 abbrev pub startAnswer : List ℕ → Memory → List ℕ → ℕ
 startAnswer bytes m img = cond (isRecord bytes) (startOn (registersIn bytes) m img) wrongLength
+
+-- demand 3: from a start that is accepted, the lists follow the abstract ones over any series of steps and runs
+abbrev pub AcceptedFollows : List ℕ → Memory → ℕ → Type 0
+AcceptedFollows bytes m n = n ≡ verdictAnswer verdict.Accepted → Follows (state (registersIn bytes) m)
 
 -- ---- what a step or a run leaves
 pub record Left : Type 0 where
@@ -73,6 +80,10 @@ StepAnswersBy false bytes m img n = n ≡ wrongLength
 abbrev pub StepAnswers : List ℕ → Memory → List ℕ → ℕ → Type 0
 StepAnswers bytes m img n = StepAnswersBy (isRecord bytes) bytes m img n
 
+-- the record then holds the registers after the step, for the next call to read
+abbrev pub StepHolds : List ℕ → Memory → List ℕ → List ℕ → Type 0
+StepHolds bytes m img after = length bytes ≡ 616 → registersIn after ≡ stepOn bytes m img .registers
+
 -- ---- a run of n steps
 abbrev pub runOn : ℕ → List ℕ → Memory → List ℕ → RunOf
 runOn n bytes m img = runOf n img (registersIn bytes) (requestsIn bytes) (rangesOf bytes) m
@@ -89,6 +100,10 @@ ranAnswer v = outcomeAnswer (v .outcome) 0 (v .made)
 
 abbrev pub runAnswer : ℕ → List ℕ → Memory → List ℕ → ℕ
 runAnswer n bytes m img = cond (isRecord bytes) (ranAnswer (runOn n bytes m img)) wrongLength
+
+-- the record then holds the registers after the run
+abbrev pub RunHolds : ℕ → List ℕ → Memory → List ℕ → List ℕ → Type 0
+RunHolds n bytes m img after = length bytes ≡ 616 → registersIn after ≡ runOn n bytes m img .registers
 
 -- where no step is made, record and window are as they were, byte for byte
 abbrev pub UnmadeKeeps : ℕ → List ℕ → Memory → List ℕ → Left → Type 0

@@ -5,7 +5,6 @@ use answers::permits;
 use answers::verdict_answer;
 use answers::wrong_length;
 use areas::link::Address;
-use inputs::checks::try_start;
 use machine::answer::Outcome;
 use machine::steps::run;
 use machine::steps::step;
@@ -13,33 +12,25 @@ use records::read_ranges;
 use records::read_registers;
 use records::read_requests;
 use records::write_back;
-use registers::FCX;
-use registers::PC;
-use registers::PCXI;
 use registers::Registers;
+use series::start;
 ghost use mathlib.Core.Path.{_≡_};
 ghost use lib.ListN.{length};
 ghost use Rattle.memory.specs.Memory.{memory};
-ghost use Rattle.deqbaryn.specs.Host.{startAnswer, stepStored, runStored, left, stepLeft, runLeft, StepAnswers, runAnswer, UnmadeKeeps};
+ghost use Rattle.deqbaryn.specs.Host.{startAnswer, AcceptedFollows, stepStored, runStored, left, stepLeft, runLeft, StepAnswers, StepHolds, runAnswer, RunHolds, UnmadeKeeps};
 
 // Whether the start is accepted, with PC, FCX and PCXI of the record.
 #[no_mangle]
 pub extern "C" fn deqbaryn_start(core: &[u8], base: u32, window: &[u8], image: &[u8]) -> u64
     ensures { λ r. ⌜ r ≡ startAnswer (now (core .entry)) (memory base (now (window .entry))) (now (image .entry)) ⌝ }
+    ensures { λ r. ⌜ AcceptedFollows (now (core .entry)) (memory base (now (window .entry))) r ⌝ }
     ensures unchanged { λ _. ⌜ (now (core .exit) ≡ now (core .entry)) × (now (window .exit) ≡ now (window .entry)) × (now (image .exit) ≡ now (image .entry)) ⌝ }
 {
     if core.len() != 616 {
         return wrong_length();
     }
     let r = read_registers(core);
-    verdict_answer(try_start(
-        Address(base),
-        window,
-        image,
-        r.core[PC],
-        r.core[FCX],
-        r.core[PCXI],
-    ))
+    verdict_answer(start(Address(base), window, image, r))
 }
 
 // A refused or stopped step leaves the record as it was.
@@ -70,6 +61,7 @@ fn store_run(core: &mut [u8], outcome: Outcome, registers: Registers, requests: 
 pub extern "C" fn deqbaryn_step(core: &mut [u8], base: u32, window: &mut [u8], image: &[u8]) -> u64
     ensures { λ _. ⌜ left (now (core .exit)) (memory base (now (window .exit))) ≡ stepLeft (now (core .entry)) (memory base (now (window .entry))) (now (image .entry)) ⌝ }
     ensures { λ r. ⌜ StepAnswers (now (core .entry)) (memory base (now (window .entry))) (now (image .entry)) r ⌝ }
+    ensures { λ _. ⌜ StepHolds (now (core .entry)) (memory base (now (window .entry))) (now (image .entry)) (now (core .exit)) ⌝ }
 {
     if core.len() != 616 {
         return wrong_length();
@@ -97,6 +89,7 @@ pub extern "C" fn deqbaryn_run(
 ) -> u64
     ensures { λ _. ⌜ left (now (core .exit)) (memory base (now (window .exit))) ≡ runLeft n (now (core .entry)) (memory base (now (window .entry))) (now (image .entry)) ⌝ }
     ensures { λ r. ⌜ r ≡ runAnswer n (now (core .entry)) (memory base (now (window .entry))) (now (image .entry)) ⌝ }
+    ensures { λ _. ⌜ RunHolds n (now (core .entry)) (memory base (now (window .entry))) (now (image .entry)) (now (core .exit)) ⌝ }
     ensures { λ _. ⌜ UnmadeKeeps n (now (core .entry)) (memory base (now (window .entry))) (now (image .entry)) (left (now (core .exit)) (memory base (now (window .exit)))) ⌝ }
 {
     if core.len() != 616 {

@@ -1,7 +1,8 @@
 -- A step is a run of one; and both, where the rules refuse.
 -- Assumes nothing.
 use Prim.Native.Nat.{ℕ}
-use mathlib.Core.Path.{_≡_, refl}
+use native.Mathlib.Omega.{arith}
+use mathlib.Core.Path.{_≡_, refl, ap}
 use mathlib.Core.List.{List}
 use Rattle.memory.specs.Memory.{Memory}
 use Rattle.registers.specs.Registers.{pc}
@@ -14,10 +15,10 @@ use Rattle.inputs.specs.declared.verdict.Verdict.the-variants.{Accepted, Refuse
 use Rattle.events.specs.declared.event.Ending.{Ending}
 use Rattle.events.specs.declared.event.Ending.the-variants as ending
 use Rattle.decisions.specs.Phases.{oneOf}
-use Rattle.machine.specs.Step.{StepOf, stepped, acceptedBy, stepOf}
+use Rattle.machine.specs.Step.{outcomeOf, StepOf, stepped, acceptedBy, stepOf}
 use Rattle.machine.specs.Inner.{Ready}
 use Rattle.machine.proofs.Turns.{accepted-step, ready-next}
-use Rattle.machine.specs.Run.{RunOf, ran, onward, runFrom, runOf}
+use Rattle.machine.specs.Run.{RunOf, ran, onward, runFrom, runOf, RefusedKeeps}
 use Rattle.machine.specs.declared.answer.Outcome.{Outcome}
 use Rattle.machine.specs.declared.answer.Outcome.the-variants as outcome
 
@@ -47,6 +48,15 @@ module _ (img : List ℕ) (r : Registers) (xs : List ℕ) (rs : List Range) (m :
   pub run-accepted : (n : ℕ) → stepVerdict m img (pc r) ≡ Accepted → runOf n img r xs rs m ≡ runFrom n img rs (outcome.Made event.Instruction) 0 r xs m
   unfolding runOf
   run-accepted n e = rw e
+
+-- a refused run leaves all as it was
+pub refused-keeps : (r : Registers) (xs : List ℕ) (m : Memory) (x : Refusal) → RefusedKeeps r xs m (ran (outcome.Refused x) 0 r xs m)
+refused-keeps r xs m x y p = ap (λ (o : Outcome). ran o 0 r xs m) p
+
+-- and the outcome of an accepted one is no refusal
+pub not-refused : (e : Ending) {o : Outcome} → o ≡ outcomeOf e → (x : Refusal) → o ≡ outcome.Refused x → ⊥
+not-refused (ending.Made e) h x p = let z : _≡_ {A = ℕ} 0 1 = cc in omega arith
+not-refused (ending.Stopped s) h x p = let z : _≡_ {A = ℕ} 0 1 = cc in omega arith
 
 -- an accepted machine stays accepted
 pub ready-after : {img : List ℕ} {r : Registers} {m : Memory} → Ready img r m → (xs : List ℕ) (rs : List Range) → (let s = stepOf img r xs rs m in Ready img (s .registers) (s .memory))

@@ -1,4 +1,4 @@
--- A run of which no step is made leaves all as it was.
+-- A step that is not made, and a run of which none is, leave all as it was.
 -- Assumes nothing.
 use Prim.Native.Nat.{ℕ, zero, suc, _+_, _≤_}
 use native.Mathlib.Omega.{arith}
@@ -42,25 +42,32 @@ counted (suc n) img rs last made r xs m =
 
 -- ---- a step that is not made
 module _ (img : List ℕ) (r : Registers) (xs : List ℕ) (rs : List Range) (m : Memory) where
-  abbrev Ended : StepOf → RunOf → Type 0
-  Ended s next = (1 ≤ next .made) → onward (s .outcome) 0 s next .made ≡ 0 → Leaves r xs m (onward (s .outcome) 0 s next)
+  abbrev pub Unmoved : Outcome → StepOf → Type 0
+  Unmoved (Made e) s = Unit {0}
+  Unmoved (Stopped x) s = Leaves r xs m (ran (Stopped x) 0 (s .registers) (s .requests) (s .memory))
+  Unmoved (Refused x) s = Leaves r xs m (ran (Refused x) 0 (s .registers) (s .requests) (s .memory))
 
-  by-ending : (e : Ending) (q : Registers) (w : Memory) (next : RunOf) → Ended (acceptedBy r xs m e q w) next
-  by-ending (ending.Made e) q w next h z = absurd (omega arith)
-  by-ending (ending.Stopped s) q w next h z = record { registers = refl; requests = refl; memory = refl }
+  by-ending : (e : Ending) (q : Registers) (w : Memory) → (let s = acceptedBy r xs m e q w in Unmoved (s .outcome) s)
+  by-ending (ending.Made e) q w = tt
+  by-ending (ending.Stopped s) q w = record { registers = refl; requests = refl; memory = refl }
 
-  by-verdict : (v : Verdict) (next : RunOf) → Ended (steppedBy img r xs rs m v) next
-  by-verdict verdict.Accepted next h z = let v = oneOf img r xs rs m in by-ending (v .ending) (v .registers) (v .memory) next h z
-  by-verdict (verdict.Refused x) next h z = record { registers = refl; requests = refl; memory = refl }
+  by-verdict : (v : Verdict) → (let s = steppedBy img r xs rs m v in Unmoved (s .outcome) s)
+  by-verdict verdict.Accepted = let v = oneOf img r xs rs m in by-ending (v .ending) (v .registers) (v .memory)
+  by-verdict (verdict.Refused x) = record { registers = refl; requests = refl; memory = refl }
 
-  by-step : (next : RunOf) → Ended (stepOf img r xs rs m) next
+  pub unmoved : (let s = stepOf img r xs rs m in Unmoved (s .outcome) s)
   unfolding stepOf
-  by-step next = by-verdict (stepVerdict m img (pc r)) next
+  unmoved = by-verdict (stepVerdict m img (pc r))
+
+  ended : (o : Outcome) (s : StepOf) (next : RunOf) → Unmoved o s → 1 ≤ next .made → onward o 0 s next .made ≡ 0 → Leaves r xs m (onward o 0 s next)
+  ended (Made e) s next u h z = absurd (omega arith)
+  ended (Stopped x) s next u h z = u
+  ended (Refused x) s next u h z = u
 
   from : (n : ℕ) → runFrom n img rs (Made event.Instruction) 0 r xs m .made ≡ 0 → Leaves r xs m (runFrom n img rs (Made event.Instruction) 0 r xs m)
   unfolding runFrom
   from zero z = record { registers = refl; requests = refl; memory = refl }
-  from (suc n) z = let s = stepOf img r xs rs m in by-step _ (counted n img rs (s .outcome) 1 (s .registers) (s .requests) (s .memory)) z
+  from (suc n) z = let s = stepOf img r xs rs m in ended (s .outcome) s _ unmoved (counted n img rs (s .outcome) 1 (s .registers) (s .requests) (s .memory)) z
 
   pub none-made : (n : ℕ) → runOf n img r xs rs m .made ≡ 0 → Leaves r xs m (runOf n img r xs rs m)
   unfolding runOf

@@ -1,5 +1,6 @@
 -- A run of n steps: one after the other, to the first stop or to the n-th.
 use Prim.Native.Nat.{ℕ, zero, suc, _+_}
+use mathlib.Core.Path.{_≡_}
 use mathlib.Core.List.{List}
 use Rattle.memory.specs.Memory.{Memory}
 use Rattle.registers.specs.Registers.{pc}
@@ -7,6 +8,7 @@ use Rattle.registers.specs.declared.Registers.{Registers}
 use Rattle.events.specs.declared.event.Event.the-variants as event
 use Rattle.protection.specs.declared.range.Range.{Range}
 use Rattle.inputs.specs.Checks.{stepVerdict}
+use Rattle.inputs.specs.declared.verdict.Refusal.{Refusal}
 use Rattle.inputs.specs.declared.verdict.Verdict.{Verdict}
 use Rattle.inputs.specs.declared.verdict.Verdict.the-variants as verdict
 use Rattle.machine.specs.Step.{StepOf, stepOf}
@@ -40,6 +42,10 @@ runFrom (suc n) img rs last made r xs m =
 abbrev pub runBy : ℕ → List ℕ → Registers → List ℕ → List Range → Memory → Verdict → RunOf
 runBy n img r xs rs m (verdict.Refused x) = ran (Refused x) 0 r xs m
 runBy n img r xs rs m verdict.Accepted = runFrom n img rs (Made event.Instruction) 0 r xs m
+
+-- a run that is refused makes no step and leaves registers, requests and memory as they were
+abbrev pub RefusedKeeps : Registers → List ℕ → Memory → RunOf → Type 0
+RefusedKeeps r xs m after = (x : Refusal) → after .outcome ≡ Refused x → after ≡ ran (Refused x) 0 r xs m
 
 -- a run of no steps is tried with the rules 1 to 4 too, and ends as an instruction
 unfoldable pub runOf : ℕ → List ℕ → Registers → List ℕ → List Range → Memory → RunOf

@@ -17,7 +17,7 @@ use registers::Registers;
 ghost use mathlib.Core.Path.{_≡_};
 ghost use Rattle.memory.specs.Memory.{memory};
 ghost use Rattle.machine.specs.Step.{stepped, stepOf};
-ghost use Rattle.machine.specs.Run.{ran, runOf};
+ghost use Rattle.machine.specs.Run.{ran, runOf, RefusedKeeps};
 ghost use Rattle.permits.specs.Permits.{fetchOfStep, dataOfStep, PermitSays};
 ghost use Rattle.machine.specs.Inner.{Ready};
 
@@ -105,6 +105,7 @@ pub fn run(
     n: u32,
 ) -> Ran
     ensures { λ r. ⌜ ran (r .outcome) (r .made) (r .registers) (r .requests) (memory (base .0) (now (window .exit))) ≡ runOf n (now (image .entry)) registers requests ranges (memory (base .0) (now (window .entry))) ⌝ }
+    ensures { λ r. ⌜ RefusedKeeps registers requests (memory (base .0) (now (window .entry))) (ran (r .outcome) (r .made) (r .registers) (r .requests) (memory (base .0) (now (window .exit)))) ⌝ }
 {
     match try_step(base, window, image, registers.core[PC]) {
         Verdict::Refused(x) => Ran {

@@ -1,12 +1,12 @@
 -- The laws of words in a list of bytes: lengths, what is read back, what stands elsewhere.
 -- Assumes nothing.
-use mathlib.Core.Path.{_≡_, refl, ap, ap₂, subst, _∙_}
+use mathlib.Core.Path.{_≡_, refl, sym, ap, ap₂, subst, _∙_}
 use mathlib.Core.Logic.{_≢_, _⊎_, inl, inr, ⊎-elim}
 use mathlib.Core.List.{List, _∷_}
 use Prim.Native.Nat.{ℕ, zero, suc, _+_, _*_, _/_, _%_, _^_, _≤_, _<_}
 use native.Mathlib.Omega.{arith}
 use lib.ListN.{length, getD, set, length-set}
-use lib.Seq.{getD-set-same, getD-set-other, set-getD}
+use lib.Seq.{getD-set-same, getD-set-other, set-getD, ext-getD}
 use native.Mathlib.Nat.{zero-add, lt-of-not-le}
 use native.Mathlib.Decide.{decLe}
 use native.Mathlib.Numerals.{add-one}
@@ -124,6 +124,17 @@ unfolding wordsAt
 words-at s zero i k h = absurd (omega arith)
 words-at s (suc n) i zero h = let e : i ≡ i + 4 * 0 = omega arith in ap (wordAt s) e
 words-at s (suc n) i (suc k) h = let e : i + 4 + 4 * k ≡ i + 4 * suc k = omega arith in words-at s n (i + 4) k (omega arith) ∙ ap (wordAt s) e
+
+-- ---- words written: those read back, and those elsewhere
+pub wordsAt-back : (s : List ℕ) (i : ℕ) (ws : List ℕ) (n : ℕ) → i + 4 * n ≤ length s → length ws ≡ n → ((m : ℕ) → getD ws m 0 < 2 ^ 32) → wordsAt (putWords s i ws n) i n ≡ ws
+wordsAt-back s i ws n h l f =
+    let t = putWords s i ws n in
+    ext-getD 0 (wordsAt t i n) ws (wordsAt-length t i n ∙ sym l)
+    (λ k g. let q : k < n = omega (arith, wordsAt-length t i n) in words-at t n i k q ∙ putWords-at s i ws n k h q f)
+
+pub wordsAt-apart : (s : List ℕ) (i : ℕ) (ws : List ℕ) (n j k : ℕ) → (j + 4 * k ≤ i) ⊎ (i + 4 * n ≤ j) → wordsAt (putWords s i ws n) j k ≡ wordsAt s j k
+wordsAt-apart s i ws n j k h =
+    wordsAt-same s (putWords s i ws n) k j (λ b p q. putWords-byte s i ws n b (⊎-elim (λ x. inl (omega arith)) (λ x. inr (omega arith)) h))
 
 -- ---- words that are written where they were read change nothing
 low-digit : (x c d : ℕ) → x ≡ c + 0x100 * d → c < 2 ^ 8 → x % 0x100 ≡ c

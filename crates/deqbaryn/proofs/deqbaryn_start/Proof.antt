@@ -7,10 +7,10 @@ use Rattle.deqbaryn.proofs.deqbaryn_start.Statement.{statement}
 use Rattle.deqbaryn.proofs.deqbaryn_start.Tie as tie
 
 returns : tie.Need-returns
-returns c = (start-wrong (c .before .before .before .before .before .args .core .now) (memory (c .before .before .before .before .before .args .base) (c .before .before .before .before .before .args .window .now)) (c .before .before .before .before .before .args .image .now) (c .before .if1 .taken) (c .wrong-length .ensures), (refl, refl, refl))
+returns c = let w = start-wrong (c .before .before .before .before .before .args .core .now) (memory (c .before .before .before .before .before .args .base) (c .before .before .before .before .before .args .window .now)) (c .before .before .before .before .before .args .image .now) (c .before .if1 .taken) (c .wrong-length .ensures) in (w .0, (w .1, (refl, refl, refl)))
 
 returns-2 : tie.Need-returns-2
-returns-2 c = (start-right (c .before .before .before .before .before .before .before .before .before .before .args .core .now) (memory (c .before .before .before .before .before .before .before .before .before .before .args .base) (c .before .before .before .before .before .before .before .before .before .before .args .window .now)) (c .before .before .before .before .before .before .before .before .before .before .args .image .now) (c .before .before .before .before .before .before .if1 .left) (c .before .before .before .before .before .read-registers .ensures) (c .before .try-start .ensures .0 .0) (c .verdict-answer .ensures), (refl, refl, refl))
+returns-2 c = let w = start-right (c .before .before .before .before .before .before .before .args .core .now) (memory (c .before .before .before .before .before .before .before .args .base) (c .before .before .before .before .before .before .before .args .window .now)) (c .before .before .before .before .before .before .before .args .image .now) (c .before .before .before .if1 .left) (c .before .before .read-registers .ensures) (c .before .start .ensures .0) (c .before .start .ensures .1) (c .verdict-answer .ensures) in (w .0, (w .1, (refl, refl, refl)))
 
 pub deqbaryn-start-spec : {M : Type 1} → statement M
 deqbaryn-start-spec =
@@ -19,9 +19,6 @@ deqbaryn-start-spec =
     (λ c κs. search needs)
     returns
     (λ c κs. search needs)
-    (λ c. search needs)
-    (λ c. search needs)
-    (λ c. search needs)
     (λ c κs. search needs)
     (λ c κs. search needs)
     returns-2)
