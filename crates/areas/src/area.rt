@@ -2,7 +2,7 @@
 
 use crate::link::Link;
 use crate::link::link_of;
-use memory::put_sixteen;
+use memory::put_words;
 use memory::word_at;
 ghost use mathlib.Core.Path.{_≡_};
 ghost use Prim.Native.Nat.{_+_, _≤_};
@@ -32,5 +32,5 @@ pub fn write_area(window: &mut [u8], at: usize, words: [u32; 16])
     requires { ⌜ at + 64 ≤ length (now window) ⌝ }
     ensures { λ _. ⌜ now (window .exit) ≡ putWords (now (window .entry)) at words 16 ⌝ }
 {
-    put_sixteen(&mut window[at..at + 64], words);
+    put_words(&mut window[at..at + 64], 0, &words);
 }

@@ -7,6 +7,7 @@ use areas::link::Place;
 use areas::link::link_of;
 use areas::link::locate;
 use memory::put_word;
+use memory::read_words;
 use memory::word_at;
 use registers::FCX;
 use registers::PCXI;
@@ -14,8 +15,6 @@ use registers::PSW;
 ghost use mathlib.Core.Path.{_≡_};
 ghost use Prim.Native.Nat.{_+_, _≤_};
 ghost use lib.ListN.{length};
-ghost use lib.Seq.{sets};
-ghost use Rattle.memory.specs.Word.{wordsAt};
 ghost use Rattle.memory.specs.Memory.{memory};
 ghost use Rattle.registers.specs.Registers.{registers};
 ghost use Rattle.contexts.specs.Restore.{loaded, loadOf, returning, returnOf};
@@ -24,58 +23,6 @@ pub enum Returned {
     Done,
     // the area lies outside the window
     Outside,
-}
-
-fn upper_addresses(area: &[u8], a: &mut [u32; 16])
-    requires { ⌜ length (now area) ≡ 64 ⌝ }
-    ensures { λ _. ⌜ now (a .exit) ≡ sets (now (a .entry)) 10 (wordsAt (now (area .entry)) 8 6) ⌝ }
-{
-    a[10] = word_at(area, 8);
-    a[11] = word_at(area, 12);
-    a[12] = word_at(area, 16);
-    a[13] = word_at(area, 20);
-    a[14] = word_at(area, 24);
-    a[15] = word_at(area, 28);
-}
-
-fn upper_data(area: &[u8], d: &mut [u32; 16])
-    requires { ⌜ length (now area) ≡ 64 ⌝ }
-    ensures { λ _. ⌜ now (d .exit) ≡ sets (now (d .entry)) 8 (wordsAt (now (area .entry)) 32 8) ⌝ }
-{
-    d[8] = word_at(area, 32);
-    d[9] = word_at(area, 36);
-    d[10] = word_at(area, 40);
-    d[11] = word_at(area, 44);
-    d[12] = word_at(area, 48);
-    d[13] = word_at(area, 52);
-    d[14] = word_at(area, 56);
-    d[15] = word_at(area, 60);
-}
-
-fn lower_addresses(area: &[u8], a: &mut [u32; 16])
-    requires { ⌜ length (now area) ≡ 64 ⌝ }
-    ensures { λ _. ⌜ now (a .exit) ≡ sets (now (a .entry)) 2 (wordsAt (now (area .entry)) 8 6) ⌝ }
-{
-    a[2] = word_at(area, 8);
-    a[3] = word_at(area, 12);
-    a[4] = word_at(area, 16);
-    a[5] = word_at(area, 20);
-    a[6] = word_at(area, 24);
-    a[7] = word_at(area, 28);
-}
-
-fn lower_data(area: &[u8], d: &mut [u32; 16])
-    requires { ⌜ length (now area) ≡ 64 ⌝ }
-    ensures { λ _. ⌜ now (d .exit) ≡ sets (now (d .entry)) 0 (wordsAt (now (area .entry)) 32 8) ⌝ }
-{
-    d[0] = word_at(area, 32);
-    d[1] = word_at(area, 36);
-    d[2] = word_at(area, 40);
-    d[3] = word_at(area, 44);
-    d[4] = word_at(area, 48);
-    d[5] = word_at(area, 52);
-    d[6] = word_at(area, 56);
-    d[7] = word_at(area, 60);
 }
 
 // Loads the upper context of the area at byte `at`, and links the area to the free list.
@@ -90,8 +37,8 @@ fn load_upper(
     ensures { λ _. ⌜ loaded (registers (now (d .exit)) (now (a .exit)) (now (core .exit))) (now (window .exit)) ≡ loadOf Half.Upper at (registers (now (d .entry)) (now (a .entry)) (now (core .entry))) (now (window .entry)) ⌝ }
 {
     let bytes = area(window, at);
-    upper_addresses(bytes, a);
-    upper_data(bytes, d);
+    read_words(bytes, 8, a, 10, 6);
+    read_words(bytes, 32, d, 8, 8);
     let free = core[FCX];
     let link = link_of(core[PCXI]);
     core[PSW] = word_at(bytes, 4);
@@ -112,8 +59,8 @@ fn load_lower(
     ensures { λ _. ⌜ loaded (registers (now (d .exit)) (now (a .exit)) (now (core .exit))) (now (window .exit)) ≡ loadOf Half.Lower at (registers (now (d .entry)) (now (a .entry)) (now (core .entry))) (now (window .entry)) ⌝ }
 {
     let bytes = area(window, at);
-    lower_addresses(bytes, a);
-    lower_data(bytes, d);
+    read_words(bytes, 8, a, 2, 6);
+    read_words(bytes, 32, d, 0, 8);
     let free = core[FCX];
     let link = link_of(core[PCXI]);
     core[PCXI] = word_at(bytes, 0);

@@ -2,12 +2,12 @@
 -- Assumes nothing.
 use mathlib.Core.Path.{_≡_, refl, sym, ap, ap₂, subst, _∙_}
 use mathlib.Core.Logic.{_≢_, _⊎_, inl, inr, ⊎-elim}
-use mathlib.Core.List.{List, _∷_}
+use mathlib.Core.List.{List, _∷_, _++_, append-nil}
 use Prim.Native.Nat.{ℕ, zero, suc, _+_, _*_, _/_, _%_, _^_, _≤_, _<_}
 use native.Mathlib.Omega.{arith}
-use lib.ListN.{length, getD, set, length-set}
-use lib.Seq.{getD-set-same, getD-set-other, set-getD, ext-getD}
-use native.Mathlib.Nat.{zero-add, lt-of-not-le}
+use lib.ListN.{length, getD, set, length-set, drop-of-length-le}
+use lib.Seq.{getD-set-same, getD-set-other, set-getD, ext-getD, sets, sets-eq}
+use native.Mathlib.Nat.{lt-of-not-le}
 use native.Mathlib.Decide.{decLe}
 use native.Mathlib.Numerals.{add-one}
 use Rattle.memory.specs.Word.{wordAt, putWord, putWords, wordsAt}
@@ -76,8 +76,8 @@ unfolding putWords
 putWords-suc s i ws n = rw add-one
 
 -- a turn of the loop that writes words
-pub put-turn : (s ws : List ℕ) (n : ℕ) {a last : List ℕ} → a ≡ putWords s 0 ws n → last ≡ putWord a (4 * n) (getD ws n 0) → last ≡ putWords s 0 ws (n + 1)
-put-turn s ws n e f = cc (putWords-suc s 0 ws n, zero-add (4 * n))
+pub put-turn : (s : List ℕ) (i : ℕ) (ws : List ℕ) (n : ℕ) {a last : List ℕ} → a ≡ putWords s i ws n → last ≡ putWord a (i + 4 * n) (getD ws n 0) → last ≡ putWords s i ws (n + 1)
+put-turn s i ws n e f = cc (putWords-suc s i ws n)
 
 -- ---- a run of words: what is read back, and what stands elsewhere
 pub putWords-byte : (s : List ℕ) (i : ℕ) (ws : List ℕ) (n k : ℕ) → (k < i) ⊎ (i + 4 * n ≤ k) → getD (putWords s i ws n) k 0 ≡ getD s k 0
@@ -124,6 +124,26 @@ unfolding wordsAt
 words-at s zero i k h = absurd (omega arith)
 words-at s (suc n) i zero h = let e : i ≡ i + 4 * 0 = omega arith in ap (wordAt s) e
 words-at s (suc n) i (suc k) h = let e : i + 4 + 4 * k ≡ i + 4 * suc k = omega arith in words-at s n (i + 4) k (omega arith) ∙ ap (wordAt s) e
+
+-- one word more read into a list, from its element f on
+read-next : (s : List ℕ) (n : ℕ) (ws : List ℕ) (f i : ℕ) → set (sets ws f (wordsAt s i n)) (f + n) (wordAt s (i + 4 * n)) ≡ sets ws f (wordsAt s i (suc n))
+unfolding wordsAt
+read-next s zero ws f i = let a : f + 0 ≡ f = omega arith in let b : i + 4 * 0 ≡ i = omega arith in rw (a, b)
+read-next s (suc n) ws f i =
+    let a : f + suc n ≡ suc f + n = omega arith in
+    let b : i + 4 * suc n ≡ i + 4 + 4 * n = omega arith in
+    rw (a, b) (read-next s n (set ws f (wordAt s i)) (suc f) (i + 4))
+
+-- a turn of the loop that reads words
+pub read-turn : (s : List ℕ) (i : ℕ) (ws : List ℕ) (f n : ℕ) {a : List ℕ} {w : ℕ} → a ≡ sets ws f (wordsAt s i n) → w ≡ wordAt s (i + 4 * n) → set a (f + n) w ≡ sets ws f (wordsAt s i (n + 1))
+read-turn s i ws f n e is = rw (e, is, add-one) (read-next s n ws f i)
+
+-- read into the whole of a list
+pub read-whole : (s : List ℕ) (i n : ℕ) (ws : List ℕ) → length ws ≡ n → sets ws 0 (wordsAt s i n) ≡ wordsAt s i n
+read-whole s i n ws l =
+    let v = wordsAt s i n in
+    let e = wordsAt-length s i n in
+    sets-eq v ws 0 (omega arith) ∙ ap (λ (r : List ℕ). v ++ r) (drop-of-length-le ws {i = 0 + length v} (omega arith)) ∙ append-nil v
 
 -- ---- words written: those read back, and those elsewhere
 pub wordsAt-back : (s : List ℕ) (i : ℕ) (ws : List ℕ) (n : ℕ) → i + 4 * n ≤ length s → length ws ≡ n → ((m : ℕ) → getD ws m 0 < 2 ^ 32) → wordsAt (putWords s i ws n) i n ≡ ws

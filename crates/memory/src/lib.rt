@@ -1,10 +1,10 @@
 // Words in lent memory, little-endian.
 
 ghost use mathlib.Core.Path.{_≡_};
-ghost use Prim.Native.Nat.{_+_, _≤_, _<_};
-ghost use lib.ListN.{length};
-ghost use lib.ListN.{getD};
-ghost use Rattle.memory.specs.Word.{halfAt, wordAt, putByte, putHalf, putWord, putWords};
+ghost use Prim.Native.Nat.{_+_, _*_, _≤_, _<_};
+ghost use lib.ListN.{length, getD};
+ghost use lib.Seq.{sets};
+ghost use Rattle.memory.specs.Word.{halfAt, wordAt, wordsAt, putByte, putHalf, putWord, putWords};
 
 // The word at byte i.
 pub fn word_at(s: &[u8], i: usize) -> u32
@@ -64,14 +64,26 @@ pub fn put_word(s: &mut [u8], i: usize, w: u32)
     s[i + 3] = (w / 0x100_0000) as u8;
 }
 
-// Writes sixteen words upward from the first byte.
-pub fn put_sixteen(s: &mut [u8], words: [u32; 16])
-    requires { ⌜ length (now s) ≡ 64 ⌝ }
-    ensures { λ _. ⌜ now (s .exit) ≡ putWords (now (s .entry)) 0 words 16 ⌝ }
+// Reads n words upward from byte i, into `words` from the element `first` on.
+pub fn read_words(s: &[u8], i: usize, words: &mut [u32], first: usize, n: usize)
+    requires { ⌜ (i + 4 * n ≤ length (now s)) × (first + n ≤ length (now words)) ⌝ }
+    ensures { λ _. ⌜ now (words .exit) ≡ sets (now (words .entry)) first (wordsAt (now (s .entry)) i n) ⌝ }
 {
-    let mut i = 0;
-    while i < 16 {
-        put_word(s, 4 * i, words[i]);
-        i += 1;
+    let mut k: usize = 0;
+    while k < n {
+        words[first + k] = word_at(s, i + 4 * k);
+        k += 1;
+    }
+}
+
+// Writes words upward from byte i.
+pub fn put_words(s: &mut [u8], i: usize, words: &[u32])
+    requires { ⌜ i + 4 * length (now words) ≤ length (now s) ⌝ }
+    ensures { λ _. ⌜ now (s .exit) ≡ putWords (now (s .entry)) i (now (words .entry)) (length (now (words .entry))) ⌝ }
+{
+    let mut k: usize = 0;
+    while k < words.len() {
+        put_word(s, i + 4 * k, words[k]);
+        k += 1;
     }
 }

@@ -1,4 +1,4 @@
--- The loops that read words and ranges, and those that write words.
+-- The loop that reads ranges, and what writing the words comes to.
 -- Assumes nothing.
 use Prim.Native.Nat.{ℕ, _+_, _*_, _<_}
 use native.Mathlib.Omega.{arith}
@@ -7,27 +7,13 @@ use mathlib.Core.Path.{_≡_, sym, ap, _∙_}
 use mathlib.Core.List.{List}
 use lib.ListN.{length, getD, set}
 use lib.Seq.{getD-set-same, getD-set-other, ext-getD}
-use Rattle.memory.specs.Word.{wordAt, wordsAt, putWord, putWords}
-use Rattle.memory.proofs.Words.{wordsAt-length, words-at, putWords-suc}
+use Rattle.memory.specs.Word.{wordAt, wordsAt, putWords}
+use Rattle.memory.proofs.Words.{words-at}
+use Rattle.registers.specs.declared.Registers.{Registers}
 use Rattle.protection.specs.Range.{rangeAt, rangesIn, noRange}
 use Rattle.protection.specs.declared.range.Range.{Range}
 use Rattle.protection.proofs.Ranges.{ranges-at}
-
--- ---- words
--- those below k are read
-abbrev pub Read : List ℕ → ℕ → List ℕ → ℕ → Type 0
-Read s at ws k = (j : ℕ) → j < k → getD ws j 0 ≡ wordAt s (at + 4 * j)
-
-pub read-turn : (s : List ℕ) (at : ℕ) (ws : List ℕ) (k w : ℕ) → k < length ws → w ≡ wordAt s (at + 4 * k) → Read s at ws k → Read s at (set ws k w) (k + 1)
-read-turn s at ws k w h is b j l = by (ℕ-discrete j k)
-  where
-    by : Dec (j ≡ k) → getD (set ws k w) j 0 ≡ wordAt s (at + 4 * j)
-    by (yes e) = rw e (getD-set-same ws k w 0 h ∙ is)
-    by (no n) = getD-set-other ws k j w 0 n ∙ b j (omega arith)
-
-pub read-end : (s : List ℕ) (at : ℕ) (ws : List ℕ) (n k : ℕ) → length ws ≡ n → k ≡ n → Read s at ws k → ws ≡ wordsAt s at n
-read-end s at ws n k l e b =
-    ext-getD 0 ws (wordsAt s at n) (l ∙ sym (wordsAt-length s at n)) (λ i h. b i (omega arith) ∙ sym (words-at s n at i (omega arith)))
+use Rattle.records.specs.CoreRecord.{storedIn}
 
 -- ---- ranges
 abbrev pub ReadRanges : List ℕ → List Range → ℕ → Type 0
@@ -63,6 +49,9 @@ pub ranges-end : (s : List ℕ) (rs : List Range) (k : ℕ) → length rs ≡ 32
 unfolding rangesIn
 ranges-end s rs k l e b = ext-getD noRange rs (rangesIn (wordsAt s 232 96)) l (λ i h. b i (omega arith) ∙ sym (ranges-at (wordsAt s 232 96) i (omega arith)))
 
--- ---- a turn of the loops that write words
-pub put-turn : (s : List ℕ) (at : ℕ) (ws : List ℕ) (n : ℕ) {a last : List ℕ} → a ≡ putWords s at ws n → last ≡ putWord a (at + 4 * n) (getD ws n 0) → last ≡ putWords s at ws (n + 1)
-put-turn s at ws n e f = cc (putWords-suc s at ws n)
+-- ---- words written one run after the other
+pub stored-by : (r : Registers) (xs bytes : List ℕ) → length (r .d) ≡ 16 → length (r .a) ≡ 16 → length (r .core) ≡ 10 → length xs ≡ 16 → {s1 s2 s3 s4 : List ℕ}
+    → s1 ≡ putWords bytes 0 (r .d) (length (r .d)) → s2 ≡ putWords s1 64 (r .a) (length (r .a)) → s3 ≡ putWords s2 128 (r .core) (length (r .core)) → s4 ≡ putWords s3 168 xs (length xs)
+    → s4 ≡ storedIn r xs bytes
+unfolding storedIn
+stored-by r xs bytes d a core x e1 e2 e3 e4 = rw (e4, e3, e2, e1, d, a, core, x)

@@ -1,13 +1,14 @@
 // The core record of a host: 154 little-endian words. D0 to D15, A0 to A15, the ten core registers, the request words of the 16 sources, and the 32 ranges of three words each.
 
-use memory::put_word;
+use memory::put_words;
+use memory::read_words;
 use memory::word_at;
 use protection::range::Range;
 use registers::Registers;
 ghost use mathlib.Core.Path.{_≡_};
 ghost use Prim.Native.Nat.{_+_, _≤_};
 ghost use lib.ListN.{length};
-ghost use Rattle.memory.specs.Word.{wordsAt, putWords};
+ghost use Rattle.memory.specs.Word.{wordsAt};
 ghost use Rattle.records.specs.CoreRecord.{registersIn, requestsIn, rangesOf, storedIn};
 
 // The sixteen words from byte `at` on.
@@ -16,11 +17,7 @@ fn sixteen(core: &[u8], at: usize) -> [u32; 16]
     ensures { λ r. ⌜ r ≡ wordsAt (now (core .entry)) at 16 ⌝ }
 {
     let mut words = [0; 16];
-    let mut i: usize = 0;
-    while i < 16 {
-        words[i] = word_at(core, at + 4 * i);
-        i += 1;
-    }
+    read_words(core, at, &mut words, 0, 16);
     words
 }
 
@@ -29,11 +26,7 @@ fn ten(core: &[u8], at: usize) -> [u32; 10]
     ensures { λ r. ⌜ r ≡ wordsAt (now (core .entry)) at 10 ⌝ }
 {
     let mut words = [0; 10];
-    let mut i: usize = 0;
-    while i < 10 {
-        words[i] = word_at(core, at + 4 * i);
-        i += 1;
-    }
+    read_words(core, at, &mut words, 0, 10);
     words
 }
 
@@ -76,38 +69,13 @@ pub fn read_ranges(core: &[u8]) -> [Range; 32]
     ranges
 }
 
-fn put_sixteen(core: &mut [u8], at: usize, words: &[u32; 16])
-    requires { ⌜ at + 64 ≤ length (now core) ⌝ }
-    ensures { λ _. ⌜ now (core .exit) ≡ putWords (now (core .entry)) at (now (words .entry)) 16 ⌝ }
-{
-    let mut i: usize = 0;
-    while i < 16 {
-        put_word(core, at + 4 * i, words[i]);
-        i += 1;
-    }
-}
-
-fn put_ten(core: &mut [u8], at: usize, words: &[u32; 10])
-    requires { ⌜ at + 40 ≤ length (now core) ⌝ }
-    ensures { λ _. ⌜ now (core .exit) ≡ putWords (now (core .entry)) at (now (words .entry)) 10 ⌝ }
-{
-    let mut i: usize = 0;
-    while i < 10 {
-        put_word(core, at + 4 * i, words[i]);
-        i += 1;
-    }
-}
-
 // Writes the registers and the request words; the ranges stay.
 pub fn write_back(core: &mut [u8], registers: Registers, requests: [u32; 16])
     requires { ⌜ length (now core) ≡ 616 ⌝ }
     ensures { λ _. ⌜ now (core .exit) ≡ storedIn registers requests (now (core .entry)) ⌝ }
 {
-    let d = registers.d;
-    let a = registers.a;
-    let words = registers.core;
-    put_sixteen(core, 0, &d);
-    put_sixteen(core, 64, &a);
-    put_ten(core, 128, &words);
-    put_sixteen(core, 168, &requests);
+    put_words(core, 0, &registers.d);
+    put_words(core, 64, &registers.a);
+    put_words(core, 128, &registers.core);
+    put_words(core, 168, &requests);
 }

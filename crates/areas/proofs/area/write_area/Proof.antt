@@ -1,8 +1,10 @@
 -- `areas::area::write_area` meets its contract. Assumes nothing.
 use borrow.Author.Needs.{needs}
 use Prim.Native.Nat.{_+_, _-_}
-use mathlib.Core.Path.{ap, _∙_}
+use mathlib.Core.Path.{_≡_, ap, _∙_}
+use lib.ListN.{length}
 use borrow.Rule.Slice.PartMut.{putMid}
+use Rattle.memory.specs.Word.{putWords}
 use Rattle.areas.proofs.Parts.{mid-words}
 use native.Mathlib.Omega.{arith}
 use Rattle.areas.proofs.area.write_area.Statement.{statement}
@@ -10,15 +12,17 @@ use Rattle.areas.proofs.area.write_area.Tie as tie
 
 returns : tie.Need-returns
 returns c =
-    let a = c .before .before .before .before .before .args in
+    let a = c .before .before .before .before .before .before .args in
     let k = a .at + 64 - a .at in
-    ap (putMid (a .at) k (a .window .now)) (c .before .before .put-sixteen .ensures)
-    ∙ mid-words (a .at) k (a .window .now) (omega arith) (omega arith) (omega arith) (a .words) 16 (omega arith)
+    let e : length (a .t3) ≡ 16 = search needs in
+    ap (putMid (a .at) k (a .window .now)) (c .before .before .put-words .ensures ∙ ap (putWords _ 0 (a .t3)) e)
+    ∙ mid-words (a .at) k (a .window .now) (omega arith) (omega arith) (omega arith) (a .t3) 16 (omega arith)
 
 pub write-area-spec : {M : Type 1} → statement M
 write-area-spec =
     tie.close
     (tie.spec
+    (λ c. search needs)
     (λ c. search needs)
     (λ c. search needs)
     (λ c. search needs)

@@ -8,26 +8,26 @@ use native.Mathlib.Omega.{arith}
 use Rattle.contexts.proofs.restore.load_lower.Statement.{statement}
 use Rattle.contexts.proofs.restore.load_lower.Tie as tie
 
-lower-addresses-requires : tie.Need-lower-addresses-requires
-lower-addresses-requires c κs = ap length (c .before .area .ensures) ∙ area-length _ _ (c .before .before .before .before .pre)
+read-words-requires : tie.Need-read-words-requires
+read-words-requires c κs = (omega (arith, ap length (c .before .area .ensures) ∙ area-length _ _ (c .before .before .before .before .pre)), omega (arith, c .read-words-arg .given .0 .1))
 
-lower-data-requires : tie.Need-lower-data-requires
-lower-data-requires c κs = ap length (c .before .before .before .area .ensures) ∙ area-length _ _ (c .before .before .before .before .before .before .pre)
+read-words-requires-2 : tie.Need-read-words-requires-2
+read-words-requires-2 c κs = (omega (arith, ap length (c .before .before .before .area .ensures) ∙ area-length _ _ (c .before .before .before .before .before .before .pre)), omega (arith, c .read-words-arg2 .given .0 .1))
 
 word-at-requires : tie.Need-word-at-requires
 word-at-requires c κs = omega (arith, ap length (c .before .before .before .before .before .before .before .area .ensures) ∙ area-length _ _ (c .before .before .before .before .before .before .before .before .before .before .pre))
 
 returns : tie.Need-returns
 unfolding loadOf
-returns c = rw (c .before .before .before .before .before .before .before .before .before .before .lower-addresses .ensures, c .before .before .before .before .before .before .before .before .lower-data .ensures, c .before .before .before .before .word-at .ensures, c .before .before .before .before .before .before .before .before .before .before .before .before .area .ensures, c .before .before .before .before .before .link-of .ensures, c .before .before .put-word .ensures)
+returns c = rw (c .before .before .before .before .before .before .before .before .before .before .read-words .ensures, c .before .before .before .before .before .before .before .before .read-words2 .ensures, c .before .before .before .before .word-at .ensures, c .before .before .before .before .before .before .before .before .before .before .before .before .area .ensures, c .before .before .before .before .before .link-of .ensures, c .before .before .put-word .ensures)
 
 pub load-lower-spec : {M : Type 1} → statement M
 load-lower-spec =
     tie.close
     (tie.spec
     (λ c κs. search needs)
-    lower-addresses-requires
-    lower-data-requires
+    read-words-requires
+    read-words-requires-2
     (λ c. search needs)
     (λ c. search needs)
     (λ c κs. search needs)

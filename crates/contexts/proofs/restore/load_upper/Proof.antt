@@ -8,11 +8,11 @@ use native.Mathlib.Omega.{arith}
 use Rattle.contexts.proofs.restore.load_upper.Statement.{statement}
 use Rattle.contexts.proofs.restore.load_upper.Tie as tie
 
-upper-addresses-requires : tie.Need-upper-addresses-requires
-upper-addresses-requires c κs = ap length (c .before .area .ensures) ∙ area-length _ _ (c .before .before .before .before .pre)
+read-words-requires : tie.Need-read-words-requires
+read-words-requires c κs = (omega (arith, ap length (c .before .area .ensures) ∙ area-length _ _ (c .before .before .before .before .pre)), omega (arith, c .read-words-arg .given .0 .1))
 
-upper-data-requires : tie.Need-upper-data-requires
-upper-data-requires c κs = ap length (c .before .before .before .area .ensures) ∙ area-length _ _ (c .before .before .before .before .before .before .pre)
+read-words-requires-2 : tie.Need-read-words-requires-2
+read-words-requires-2 c κs = (omega (arith, ap length (c .before .before .before .area .ensures) ∙ area-length _ _ (c .before .before .before .before .before .before .pre)), omega (arith, c .read-words-arg2 .given .0 .1))
 
 word-at-requires : tie.Need-word-at-requires
 word-at-requires c κs = omega (arith, ap length (c .before .before .before .before .before .before .before .area .ensures) ∙ area-length _ _ (c .before .before .before .before .before .before .before .before .before .before .pre))
@@ -22,15 +22,15 @@ word-at-requires-2 c κs = omega (arith, ap length (c .before .before .before .b
 
 returns : tie.Need-returns
 unfolding loadOf
-returns c = rw (c .before .before .before .before .before .before .before .before .before .before .before .upper-addresses .ensures, c .before .before .before .before .before .before .before .before .before .upper-data .ensures, c .before .before .before .before .before .word-at .ensures, c .before .before .before .before .word-at2 .ensures, c .before .before .before .before .before .before .before .before .before .before .before .before .before .area .ensures, c .before .before .before .before .before .before .link-of .ensures, c .before .before .put-word .ensures)
+returns c = rw (c .before .before .before .before .before .before .before .before .before .before .before .read-words .ensures, c .before .before .before .before .before .before .before .before .before .read-words2 .ensures, c .before .before .before .before .before .word-at .ensures, c .before .before .before .before .word-at2 .ensures, c .before .before .before .before .before .before .before .before .before .before .before .before .before .area .ensures, c .before .before .before .before .before .before .link-of .ensures, c .before .before .put-word .ensures)
 
 pub load-upper-spec : {M : Type 1} → statement M
 load-upper-spec =
     tie.close
     (tie.spec
     (λ c κs. search needs)
-    upper-addresses-requires
-    upper-data-requires
+    read-words-requires
+    read-words-requires-2
     (λ c. search needs)
     (λ c. search needs)
     (λ c κs. search needs)

@@ -1,18 +1,18 @@
--- `records::put_sixteen` meets its contract. Assumes nothing.
+-- `memory::put_words` meets its contract. Assumes nothing.
 use Prim.Native.Nat.{_-_, _≤_}
 use mathlib.Core.Path.{_≡_, refl, ap, _∙_}
 use lib.ListN.{length}
 use Rattle.memory.specs.Word.{putWords}
-use Rattle.records.proofs.Readings.{put-turn}
+use Rattle.memory.proofs.Words.{put-turn}
 use native.Mathlib.Omega.{arith}
-use Rattle.records.proofs.put_sixteen.Statement.{statement}
-use Rattle.records.proofs.put_sixteen.Tie as tie
+use Rattle.memory.proofs.put_words.Statement.{statement}
+use Rattle.memory.proofs.put_words.Tie as tie
 
 abbrev Inv-loop : tie.InvT-loop
-Inv-loop core₀ at words i₀ core i = (i ≤ 16) × (length core ≡ length core₀) × (core ≡ putWords core₀ at words i)
+Inv-loop s₀ i words k₀ s k = (k ≤ length words) × (length s ≡ length s₀) × (s ≡ putWords s₀ i words k)
 
 abbrev μ-loop : tie.MeasureT-loop
-μ-loop core₀ at words i₀ core i = 16 - i
+μ-loop s₀ i words k₀ s k = length words - k
 
 loop-holds : tie.Need-loop-holds Inv-loop μ-loop
 unfolding putWords
@@ -23,11 +23,12 @@ loop-again c = (omega arith, c .before .before .put-word .kept .0 ∙ c .before 
 
 returns : tie.Need-returns Inv-loop μ-loop
 returns c =
-    let e : c .before .loop .i ≡ 16 = omega arith in
-    c .before .loop .inv .2 ∙ ap (putWords _ _ _) e
+    let a = c .before .before .before .before .args in
+    let e : c .before .loop .k ≡ length (a .words .now) = omega arith in
+    c .before .loop .inv .2 ∙ ap (putWords (a .s .now) (a .i) (a .words .now)) e
 
-pub put-sixteen-spec : {M : Type 1} → statement M
-put-sixteen-spec =
+pub put-words-spec : {M : Type 1} → statement M
+put-words-spec =
     tie.close
     (tie.spec
     Inv-loop
