@@ -23,11 +23,11 @@ use Rattle.machine.specs.declared.answer.Outcome.the-variants.{Made, Stopped, R
 use Rattle.machine.proofs.Unmade.{Unmoved, unmoved, none-made}
 use Rattle.permits.specs.declared.Permit.{Permit}
 use Rattle.series.specs.Calls.{state}
-use Rattle.series.specs.Claim.{Follows}
 use Rattle.records.specs.CoreRecord.{registersIn, requestsIn, rangesOf, storedIn}
 use Rattle.records.proofs.Kept.{stored-kept, registers-back}
 use Rattle.answers.specs.Answers.{packedOf, permitsNumber, outcomeAnswer, wrongLength, verdictAnswer}
-use Rattle.deqbaryn.specs.Host.{isRecord, startAnswer, AcceptedFollows, left, stepStored, runStored, stepLeft, StepAnswer, StepAnswers, StepHolds, runOn, afterRun, runLeft, runAnswer, RunHolds, UnmadeKeeps}
+use Rattle.deqbaryn.specs.Host.{isRecord, startAnswer, left, stepStored, runStored, stepLeft, StepAnswer, StepAnswers, StepHolds, runOn, afterRun, runLeft, runAnswer, RunHolds, UnmadeKeeps}
+use Rattle.deqbaryn.specs.Calls.{HostFollows, AcceptedFollows}
 
 -- only a start that is accepted is answered so
 accepted : (v : Verdict) → verdictAnswer v ≡ verdictAnswer verdict.Accepted → v ≡ verdict.Accepted
@@ -45,12 +45,12 @@ module _ (bytes : List ℕ) (l : length bytes ≡ 616) (q : Registers) (w : Word
   back = registers-back q ys bytes l (w .0 .size, w .0 .each) (w .1 .size, w .1 .each) (w .2 .size, w .2 .each)
 
   module _ {r : Registers} (reg : r ≡ registersIn bytes) (xs : List ℕ) (m after : Memory) where
-    step-stored : (img : List ℕ) (rs : List Range) (o : Outcome) → Unmoved img r xs rs m o (stepped o q ys after) → registersIn (stepStored o q ys bytes) ≡ q
+    pub step-stored : (img : List ℕ) (rs : List Range) (o : Outcome) → Unmoved img r xs rs m o (stepped o q ys after) → registersIn (stepStored o q ys bytes) ≡ q
     step-stored img rs (Made e) u = back
     step-stored img rs (Stopped x) u = sym (u .registers ∙ reg)
     step-stored img rs (Refused x) u = sym (u .registers ∙ reg)
 
-    run-stored : (o : Outcome) (made : ℕ) → RefusedKeeps r xs m (ran o made q ys after) → registersIn (runStored o q ys bytes) ≡ q
+    pub run-stored : (o : Outcome) (made : ℕ) → RefusedKeeps r xs m (ran o made q ys after) → registersIn (runStored o q ys bytes) ≡ q
     run-stored (Made e) made u = back
     run-stored (Stopped x) made u = back
     run-stored (Refused x) made u = sym (ap (λ (v : RunOf). v .registers) (u x refl) ∙ reg)
@@ -69,7 +69,7 @@ module _ (bytes : List ℕ) (m : Memory) (img : List ℕ) where
 
   -- ---- a record, with what is read from it
   module _ (l : length bytes ≡ 616) {r : Registers} (reg : r ≡ registersIn bytes) where
-    pub start-right : {v : Verdict} {n : ℕ} → v ≡ startVerdict m img (pc r) (fcx r) (pcxi r) → (v ≡ verdict.Accepted → Follows (state r m)) → n ≡ verdictAnswer v
+    pub start-right : {v : Verdict} {n : ℕ} → v ≡ startVerdict m img (pc r) (fcx r) (pcxi r) → (v ≡ verdict.Accepted → HostFollows (state r m)) → n ≡ verdictAnswer v
         → (n ≡ startAnswer bytes m img) × AcceptedFollows bytes m n
     start-right {v} said follows is =
         (rw (eq-eqb (length bytes) 616 l, ← reg) (is ∙ ap verdictAnswer said), λ e. rw (← reg) (follows (accepted v (sym is ∙ e))))

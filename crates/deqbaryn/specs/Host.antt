@@ -9,15 +9,12 @@ use Rattle.memory.specs.Memory.{Memory}
 use Rattle.registers.specs.Registers.{pc, fcx, pcxi}
 use Rattle.registers.specs.declared.Registers.{Registers}
 use Rattle.inputs.specs.Checks.{startVerdict}
-use Rattle.inputs.specs.declared.verdict.Verdict.the-variants as verdict
 use Rattle.machine.specs.Step.{StepOf, stepOf}
 use Rattle.machine.specs.Run.{RunOf, runOf}
 use Rattle.permits.specs.Permits.{fetchOfStep, dataOfStep, PermitSays}
 use Rattle.machine.specs.declared.answer.Outcome.{Outcome}
 use Rattle.machine.specs.declared.answer.Outcome.the-variants.{Made, Stopped, Refused}
 use Rattle.permits.specs.declared.Permit.{Permit}
-use Rattle.series.specs.Calls.{state}
-use Rattle.series.specs.Claim.{Follows}
 use Rattle.records.specs.CoreRecord.{registersIn, requestsIn, rangesOf, storedIn}
 use Rattle.answers.specs.Answers.{permitsNumber, outcomeAnswer, wrongLength, verdictAnswer}
 
@@ -30,10 +27,6 @@ startOn r m img = verdictAnswer (startVerdict m img (pc r) (fcx r) (pcxi r))
 
 abbrev pub startAnswer : List ℕ → Memory → List ℕ → ℕ
 startAnswer bytes m img = cond (isRecord bytes) (startOn (registersIn bytes) m img) wrongLength
-
--- demand 3: from a start that is accepted, the lists follow the abstract ones over any series of steps and runs
-abbrev pub AcceptedFollows : List ℕ → Memory → ℕ → Type 0
-AcceptedFollows bytes m n = n ≡ verdictAnswer verdict.Accepted → Follows (state (registersIn bytes) m)
 
 -- ---- what a step or a run leaves
 pub record Left : Type 0 where

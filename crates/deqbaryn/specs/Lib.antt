@@ -1,2 +1,3 @@
 -- The host library.
 pub mod Host
+pub mod Calls

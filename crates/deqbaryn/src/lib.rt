@@ -17,7 +17,8 @@ use series::start;
 ghost use mathlib.Core.Path.{_≡_};
 ghost use lib.ListN.{length};
 ghost use Rattle.memory.specs.Memory.{memory};
-ghost use Rattle.deqbaryn.specs.Host.{startAnswer, AcceptedFollows, stepStored, runStored, left, stepLeft, runLeft, StepAnswers, StepHolds, runAnswer, RunHolds, UnmadeKeeps};
+ghost use Rattle.deqbaryn.specs.Host.{startAnswer, stepStored, runStored, left, stepLeft, runLeft, StepAnswers, StepHolds, runAnswer, RunHolds, UnmadeKeeps};
+ghost use Rattle.deqbaryn.specs.Calls.{AcceptedFollows};
 
 // Whether the start is accepted, with PC, FCX and PCXI of the record.
 #[no_mangle]

@@ -4,3 +4,4 @@ pub mod Walks
 pub mod Loops
 pub mod Singles
 pub mod Unmade
+pub mod Stays

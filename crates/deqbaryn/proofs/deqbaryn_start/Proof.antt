@@ -1,8 +1,12 @@
 -- `deqbaryn::deqbaryn_start` meets its contract. Assumes nothing.
 use borrow.Author.Needs.{needs}
-use mathlib.Core.Path.{refl}
+use mathlib.Core.Path.{refl, sym, _∙_}
 use Rattle.memory.specs.Memory.{memory}
+use Rattle.decisions.proofs.Known.{valid-of, bytes-of}
+use Rattle.series.specs.Calls.{state}
+use Rattle.series.proofs.Starts.{start-even}
 use Rattle.deqbaryn.proofs.Hosts.{start-wrong, start-right}
+use Rattle.deqbaryn.proofs.Series.{host-follows}
 use Rattle.deqbaryn.proofs.deqbaryn_start.Statement.{statement}
 use Rattle.deqbaryn.proofs.deqbaryn_start.Tie as tie
 
@@ -10,7 +14,13 @@ returns : tie.Need-returns
 returns c = let w = start-wrong (c .before .before .before .before .before .args .core .now) (memory (c .before .before .before .before .before .args .base) (c .before .before .before .before .before .args .window .now)) (c .before .before .before .before .before .args .image .now) (c .before .if1 .taken) (c .wrong-length .ensures) in (w .0, (w .1, (refl, refl, refl)))
 
 returns-2 : tie.Need-returns-2
-returns-2 c = let w = start-right (c .before .before .before .before .before .before .before .args .core .now) (memory (c .before .before .before .before .before .before .before .args .base) (c .before .before .before .before .before .before .before .args .window .now)) (c .before .before .before .before .before .before .before .args .image .now) (c .before .before .before .if1 .left) (c .before .before .read-registers .ensures) (c .before .start .ensures .0) (c .before .start .ensures .1) (c .verdict-answer .ensures) in (w .0, (w .1, (refl, refl, refl)))
+returns-2 c =
+    let a = c .before .before .before .before .before .before .before .args in
+    let m = memory (a .base) (a .window .now) in
+    let s = state (c .before .before .read-registers .result) m in
+    let said = c .before .start .ensures .0 in
+    let w = start-right (a .core .now) m (a .image .now) (c .before .before .before .if1 .left) (c .before .before .read-registers .ensures) said (λ e. host-follows s (valid-of (c .before .before .read-registers .ok) (start-even s (a .image .now) (sym said ∙ e))) (bytes-of (c .before .before .before .before .before .shared-slice-known2 .given)) (c .before .start .ensures .1 e)) (c .verdict-answer .ensures) in
+    (w .0, (w .1, (refl, refl, refl)))
 
 pub deqbaryn-start-spec : {M : Type 1} → statement M
 deqbaryn-start-spec =
