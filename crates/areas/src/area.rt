@@ -32,5 +32,5 @@ pub fn write_area(window: &mut [u8], at: usize, words: [u32; 16])
     requires { ⌜ at + 64 ≤ length (now window) ⌝ }
     ensures { λ _. ⌜ now (window .exit) ≡ putWords (now (window .entry)) at words 16 ⌝ }
 {
-    put_words(&mut window[at..at + 64], 0, &words);
+    put_words(&mut window[at..at + 64], 0, &words, 16);
 }

@@ -76,13 +76,13 @@ pub fn read_words(s: &[u8], i: usize, words: &mut [u32], first: usize, n: usize)
     }
 }
 
-// Writes words upward from byte i.
-pub fn put_words(s: &mut [u8], i: usize, words: &[u32])
-    requires { ⌜ i + 4 * length (now words) ≤ length (now s) ⌝ }
-    ensures { λ _. ⌜ now (s .exit) ≡ putWords (now (s .entry)) i (now (words .entry)) (length (now (words .entry))) ⌝ }
+// Writes the first n of the words upward from byte i.
+pub fn put_words(s: &mut [u8], i: usize, words: &[u32], n: usize)
+    requires { ⌜ (i + 4 * n ≤ length (now s)) × (n ≤ length (now words)) ⌝ }
+    ensures { λ _. ⌜ now (s .exit) ≡ putWords (now (s .entry)) i (now (words .entry)) n ⌝ }
 {
     let mut k: usize = 0;
-    while k < words.len() {
+    while k < n {
         put_word(s, i + 4 * k, words[k]);
         k += 1;
     }

@@ -1,4 +1,4 @@
--- The loop that reads ranges, and what writing the words comes to.
+-- The loop that reads ranges.
 -- Assumes nothing.
 use Prim.Native.Nat.{ℕ, _+_, _*_, _<_}
 use native.Mathlib.Omega.{arith}
@@ -7,13 +7,11 @@ use mathlib.Core.Path.{_≡_, sym, ap, _∙_}
 use mathlib.Core.List.{List}
 use lib.ListN.{length, getD, set}
 use lib.Seq.{getD-set-same, getD-set-other, ext-getD}
-use Rattle.memory.specs.Word.{wordAt, wordsAt, putWords}
+use Rattle.memory.specs.Word.{wordAt, wordsAt}
 use Rattle.memory.proofs.Words.{words-at}
-use Rattle.registers.specs.declared.Registers.{Registers}
 use Rattle.protection.specs.Range.{rangeAt, rangesIn, noRange}
 use Rattle.protection.specs.declared.range.Range.{Range}
 use Rattle.protection.proofs.Ranges.{ranges-at}
-use Rattle.records.specs.CoreRecord.{storedIn}
 
 -- ---- ranges
 abbrev pub ReadRanges : List ℕ → List Range → ℕ → Type 0
@@ -48,10 +46,3 @@ ranges-turn s rs k g n h p q t b j l = by (ℕ-discrete j k)
 pub ranges-end : (s : List ℕ) (rs : List Range) (k : ℕ) → length rs ≡ 32 → k ≡ 32 → ReadRanges s rs k → rs ≡ rangesIn (wordsAt s 232 96)
 unfolding rangesIn
 ranges-end s rs k l e b = ext-getD noRange rs (rangesIn (wordsAt s 232 96)) l (λ i h. b i (omega arith) ∙ sym (ranges-at (wordsAt s 232 96) i (omega arith)))
-
--- ---- words written one run after the other
-pub stored-by : (r : Registers) (xs bytes : List ℕ) → length (r .d) ≡ 16 → length (r .a) ≡ 16 → length (r .core) ≡ 10 → length xs ≡ 16 → {s1 s2 s3 s4 : List ℕ}
-    → s1 ≡ putWords bytes 0 (r .d) (length (r .d)) → s2 ≡ putWords s1 64 (r .a) (length (r .a)) → s3 ≡ putWords s2 128 (r .core) (length (r .core)) → s4 ≡ putWords s3 168 xs (length xs)
-    → s4 ≡ storedIn r xs bytes
-unfolding storedIn
-stored-by r xs bytes d a core x e1 e2 e3 e4 = rw (e4, e3, e2, e1, d, a, core, x)

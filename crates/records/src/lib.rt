@@ -8,7 +8,7 @@ use registers::Registers;
 ghost use mathlib.Core.Path.{_≡_};
 ghost use Prim.Native.Nat.{_+_, _≤_};
 ghost use lib.ListN.{length};
-ghost use Rattle.memory.specs.Word.{wordsAt};
+ghost use Rattle.memory.specs.Word.{wordsAt, putWords};
 ghost use Rattle.records.specs.CoreRecord.{registersIn, requestsIn, rangesOf, storedIn};
 
 // The sixteen words from byte `at` on.
@@ -69,13 +69,21 @@ pub fn read_ranges(core: &[u8]) -> [Range; 32]
     ranges
 }
 
+// Writes sixteen words from byte `at` on: of a fixed number, so that it is compiled without a loop.
+fn put_sixteen(core: &mut [u8], at: usize, words: &[u32; 16])
+    requires { ⌜ at + 64 ≤ length (now core) ⌝ }
+    ensures { λ _. ⌜ now (core .exit) ≡ putWords (now (core .entry)) at (now (words .entry)) 16 ⌝ }
+{
+    put_words(core, at, words, 16);
+}
+
 // Writes the registers and the request words; the ranges stay.
 pub fn write_back(core: &mut [u8], registers: Registers, requests: [u32; 16])
     requires { ⌜ length (now core) ≡ 616 ⌝ }
     ensures { λ _. ⌜ now (core .exit) ≡ storedIn registers requests (now (core .entry)) ⌝ }
 {
-    put_words(core, 0, &registers.d);
-    put_words(core, 64, &registers.a);
-    put_words(core, 128, &registers.core);
-    put_words(core, 168, &requests);
+    put_sixteen(core, 0, &registers.d);
+    put_sixteen(core, 64, &registers.a);
+    put_words(core, 128, &registers.core, 10);
+    put_sixteen(core, 168, &requests);
 }

@@ -9,10 +9,10 @@ use Rattle.memory.proofs.put_words.Statement.{statement}
 use Rattle.memory.proofs.put_words.Tie as tie
 
 abbrev Inv-loop : tie.InvT-loop
-Inv-loop s₀ i words k₀ s k = (k ≤ length words) × (length s ≡ length s₀) × (s ≡ putWords s₀ i words k)
+Inv-loop s₀ i words n k₀ s k = (k ≤ n) × (length s ≡ length s₀) × (s ≡ putWords s₀ i words k)
 
 abbrev μ-loop : tie.MeasureT-loop
-μ-loop s₀ i words k₀ s k = length words - k
+μ-loop s₀ i words n k₀ s k = n - k
 
 loop-holds : tie.Need-loop-holds Inv-loop μ-loop
 unfolding putWords
@@ -24,7 +24,7 @@ loop-again c = (omega arith, c .before .before .put-word .kept .0 ∙ c .before 
 returns : tie.Need-returns Inv-loop μ-loop
 returns c =
     let a = c .before .before .before .before .args in
-    let e : c .before .loop .k ≡ length (a .words .now) = omega arith in
+    let e : c .before .loop .k ≡ a .n = omega arith in
     c .before .loop .inv .2 ∙ ap (putWords (a .s .now) (a .i) (a .words .now)) e
 
 pub put-words-spec : {M : Type 1} → statement M

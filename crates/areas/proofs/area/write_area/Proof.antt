@@ -1,10 +1,8 @@
 -- `areas::area::write_area` meets its contract. Assumes nothing.
 use borrow.Author.Needs.{needs}
 use Prim.Native.Nat.{_+_, _-_}
-use mathlib.Core.Path.{_≡_, ap, _∙_}
-use lib.ListN.{length}
+use mathlib.Core.Path.{ap, _∙_}
 use borrow.Rule.Slice.PartMut.{putMid}
-use Rattle.memory.specs.Word.{putWords}
 use Rattle.areas.proofs.Parts.{mid-words}
 use native.Mathlib.Omega.{arith}
 use Rattle.areas.proofs.area.write_area.Statement.{statement}
@@ -14,8 +12,7 @@ returns : tie.Need-returns
 returns c =
     let a = c .before .before .before .before .before .before .args in
     let k = a .at + 64 - a .at in
-    let e : length (a .t3) ≡ 16 = search needs in
-    ap (putMid (a .at) k (a .window .now)) (c .before .before .put-words .ensures ∙ ap (putWords _ 0 (a .t3)) e)
+    ap (putMid (a .at) k (a .window .now)) (c .before .before .put-words .ensures)
     ∙ mid-words (a .at) k (a .window .now) (omega arith) (omega arith) (omega arith) (a .t3) 16 (omega arith)
 
 pub write-area-spec : {M : Type 1} → statement M
