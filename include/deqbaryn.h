@@ -62,7 +62,8 @@ enum deqbaryn_kind {
 };
 
 /* Tries the six rules of a start, with PC, FCX and PCXI of the record: accepted, or
- * refused. Nothing changes. */
+ * refused. Nothing changes. What is proved of the lists over any steps and runs from
+ * an accepted start is in docs/CLAIMS.md, demand 3. */
 uint64_t deqbaryn_start(const uint8_t *core, size_t core_len, uint32_t base,
                         const uint8_t *window, size_t window_len,
                         const uint8_t *image, size_t image_len);

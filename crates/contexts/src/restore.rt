@@ -37,6 +37,7 @@ fn load_upper(
     ensures { λ _. ⌜ loaded (registers (now (d .exit)) (now (a .exit)) (now (core .exit))) (now (window .exit)) ≡ loadOf Half.Upper at (registers (now (d .entry)) (now (a .entry)) (now (core .entry))) (now (window .entry)) ⌝ }
 {
     let bytes = area(window, at);
+    // A10 to A15, D8 to D15
     read_words(bytes, 8, a, 10, 6);
     read_words(bytes, 32, d, 8, 8);
     let free = core[FCX];
@@ -59,6 +60,7 @@ fn load_lower(
     ensures { λ _. ⌜ loaded (registers (now (d .exit)) (now (a .exit)) (now (core .exit))) (now (window .exit)) ≡ loadOf Half.Lower at (registers (now (d .entry)) (now (a .entry)) (now (core .entry))) (now (window .entry)) ⌝ }
 {
     let bytes = area(window, at);
+    // A2 to A7, D0 to D7
     read_words(bytes, 8, a, 2, 6);
     read_words(bytes, 32, d, 0, 8);
     let free = core[FCX];
