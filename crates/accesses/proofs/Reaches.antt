@@ -1,7 +1,7 @@
 -- What an access that reaches its data has passed.
 -- Assumes nothing.
 use Prim.Native.Nat.{ℕ, _+_, _%_, _≤_}
-use mathlib.Core.Path.{_≡_, refl, _∙_}
+use mathlib.Core.Path.{_≡_}
 use mathlib.Core.Bool.{Bool, true, false, cond}
 use mathlib.Core.List.{List}
 use native.Mathlib.Omega.{arith}
@@ -18,7 +18,6 @@ use Rattle.protection.specs.declared.range.Right.{Right}
 use Rattle.protection.specs.declared.access.Check.{Check}
 use Rattle.protection.specs.declared.access.Check.the-variants.{Passes, Fails}
 use Rattle.accesses.specs.Reach.{placedReach, alignedReach, checkedReach, reachOf}
-use Rattle.accesses.specs.declared.reach.Reach.{Reach}
 use Rattle.accesses.specs.declared.reach.Reach.the-variants.{At, Traps}
 
 never : {A : Type 0} (t : Trap) (at : ℕ) → Traps t ≡ At at → A

@@ -11,7 +11,7 @@ use lib.Seq.{getD-set-same, getD-set-other}
 use Rattle.fields.specs.Psw.{PSW·PRS}
 use Rattle.registers.specs.Registers.{registers, psw, withCore, withPc, withPsw}
 use Rattle.registers.specs.declared.Registers.{Registers}
-use Rattle.acts.specs.Steady.{Steady, Keeps, plainly}
+use Rattle.acts.specs.Steady.{Steady, Keeps}
 use Rattle.acts.specs.declared.How.{How}
 use Rattle.acts.specs.declared.How.the-variants as how
 

@@ -17,12 +17,12 @@ use Rattle.events.specs.declared.event.Stop.the-variants.{NoArea, Outside}
 use Rattle.contexts.specs.Save.{roomBy, roomAt}
 use Rattle.contexts.specs.declared.save.Room.the-variants as room
 
-never : {s : Stop} {at : ℕ} → room.Stops s ≡ room.At at → ⊥
-never e = let z : _≡_ {A = ℕ} 0 1 = cc in omega arith
+pub never-room : {s : Stop} {at : ℕ} → room.Stops s ≡ room.At at → ⊥
+never-room e = let z : _≡_ {A = ℕ} 0 1 = cc in omega arith
 
 by-place : (p : Place) (at : ℕ) → roomBy p ≡ room.At at → p ≡ place.At at
 by-place (place.At x) at e = let z : x ≡ at = cc in rw z
-by-place place.Outside at e = absurd (never e)
+by-place place.Outside at e = absurd (never-room e)
 
 -- an area that is found: its link is not 0, and it lies at that place
 pub record Area (base len word at : ℕ) : Type 0 where
@@ -34,7 +34,7 @@ unfolding roomAt
 room-at base len word at e = by (eqb (linkOf word .0) 0) refl e
   where
     by : (t : Bool) → eqb (linkOf word .0) 0 ≡ t → cond t (room.Stops NoArea) (roomBy (placed base len (addressOf (linkOf word)))) ≡ room.At at → Area base len word at
-    by true t f = absurd (never f)
+    by true t f = absurd (never-room f)
     by false t f = record { linked = eqb-false (linkOf word .0) 0 t; lies = by-place (placed base len (addressOf (linkOf word))) at f }
 
 pub room-inside : (base len word at : ℕ) → roomAt base len word ≡ room.At at → at + 64 ≤ len

@@ -4,9 +4,9 @@ use Prim.Native.Nat.{ℕ, zero, suc, _%_, _^_, _<_}
 use native.Mathlib.Omega.{arith}
 use mathlib.Core.Path.{_≡_, _∙_}
 use mathlib.Core.List.{List, [], _∷_}
-use lib.ListN.{length, getD, set, length-set}
+use lib.ListN.{getD, set, length-set}
 use lib.Seq.{getD-set-same, getD-set-other}
-use Rattle.registers.specs.Registers.{pc, withD, withA, withCore, withPc, even}
+use Rattle.registers.specs.Registers.{withD, withA, withCore, withPc, even}
 use Rattle.registers.specs.declared.Registers.{Registers}
 use Rattle.decisions.specs.Valid.{Words, Valid}
 

@@ -3,9 +3,8 @@
 use Prim.Native.Nat.{ℕ, _%_, _^_, _<_}
 use native.Mathlib.Omega.{arith}
 use mathlib.Core.Path.{_≡_, refl, _∙_}
-use lib.ListN.{getD, set}
 use lib.Seq.{getD-set-other}
-use Rattle.registers.specs.Registers.{pc, pcxi, fcx, withD, withA, withPc, withPsw, withIcr}
+use Rattle.registers.specs.Registers.{pcxi, fcx, withD, withA, withPc, withPsw, withIcr}
 use Rattle.registers.specs.declared.Registers.{Registers}
 use Rattle.events.specs.declared.trap.Trap.{Trap}
 use Rattle.acts.specs.Acts.{Ended}

@@ -8,7 +8,7 @@ use lib.ListN.{length}
 use Rattle.memory.specs.Memory.{Memory, memory}
 use Rattle.memory.proofs.Words.{putWord-length, putWords-length}
 use Rattle.bounds.proofs.Fields.{pcxi-word}
-use Rattle.registers.specs.Registers.{pc, fcx, pcxi}
+use Rattle.registers.specs.Registers.{fcx}
 use Rattle.registers.specs.declared.Registers.{Registers}
 use Rattle.events.specs.Traps.{FCD}
 use Rattle.events.specs.declared.event.Event.{Event}
@@ -30,8 +30,9 @@ use Rattle.decisions.proofs.Memories.{bytes-word, bytes-words, bytes-st
 use Rattle.decisions.proofs.Savings.{afterSave, savedBytes, reached, SavingCase, lacks, lacks-second, saves, depletes, saving-case}
 use Rattle.decisions.proofs.Returnings.{ReturningCase, outside, returns, returning-case, loaded-valid}
 
-never : {e : Event} {s : Stop} → Made e ≡ Stopped s → ⊥
-never h = let z : _≡_ {A = ℕ} 0 1 = cc in omega arith
+-- a step that is made is not stopped
+pub never-made : {e : Event} {s : Stop} → Made e ≡ Stopped s → ⊥
+never-made h = let z : _≡_ {A = ℕ} 0 1 = cc in omega arith
 
 pub record Kept (r : Registers) (m : Memory) (x : MadeOf) : Type 0 where
   pub base : x .memory .base ≡ m .base
@@ -60,7 +61,7 @@ module _ {r : Registers} (w : Valid r) (m : Memory) (b : Bytes (m .bytes)) where
           size = putWords-length (m .bytes) at (contextOf half saved-pc r) 16;
           valid = reached-valid at;
           bytes = saved-bytes at;
-          leaves = λ s g'. absurd (never g');
+          leaves = λ s g'. absurd (never-made g');
         }
     saving-kept x (depletes at second k g l) =
         let q = reached e half saved-pc then r m at in
@@ -71,7 +72,7 @@ module _ {r : Registers} (w : Valid r) (m : Memory) (b : Bytes (m .bytes)) where
           size = putWords-length (savedBytes e half saved-pc then r m at) second (upperOf q) 16 ∙ putWords-length (m .bytes) at (contextOf half saved-pc r) 16;
           valid = trap-then FCD _ (small (omega arith) (omega arith)) (u .core .each 0) .valid _ u;
           bytes = bytes-words second (upperOf q) 16 (saved-bytes at) (context-words v Upper 0 (omega arith));
-          leaves = λ s g'. absurd (never g');
+          leaves = λ s g'. absurd (never-made g');
         }
 
   returning-kept : (half : Half) (then : Registers → Registers) → ReturnThen then → (x : MadeOf) → ReturningCase half then r m x → Kept r m x
@@ -82,18 +83,18 @@ module _ {r : Registers} (w : Valid r) (m : Memory) (b : Bytes (m .bytes)) where
         size = putWord-length (m .bytes) at (fcx r);
         valid = t .valid _ (loaded-valid w b at half);
         bytes = bytes-word at (fcx r) b (w .core .each 3);
-        leaves = λ s g. absurd (never g);
+        leaves = λ s g. absurd (never-made g);
       }
 
   pub performed-kept : (quiet : Type 0) (d : Decision) → DecisionSound quiet r m d → Kept r m (performedOf d r m)
-  performed-kept quiet (Keep q) s = record { base = refl; size = refl; valid = s .valid; bytes = b; leaves = λ x g. absurd (never g) }
+  performed-kept quiet (Keep q) s = record { base = refl; size = refl; valid = s .valid; bytes = b; leaves = λ x g. absurd (never-made g) }
   performed-kept quiet (Write op at v q) s =
       record {
         base = refl;
         size = stored-length op (m .bytes) at v;
         valid = s .0 .valid;
         bytes = bytes-stored op at v b (s .1);
-        leaves = λ x g. absurd (never g);
+        leaves = λ x g. absurd (never-made g);
       }
   performed-kept quiet (Save e half saved-pc then) s = saving-kept e half saved-pc (s .0) then (s .1) _ (saving-case e half saved-pc then r m w (s .1))
   performed-kept quiet (Return half then) s = returning-kept half then (s .0) _ (returning-case half then r m)

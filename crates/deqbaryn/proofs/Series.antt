@@ -1,22 +1,19 @@
 -- A series of the host's calls leaves what the series of steps and runs leaves.
 -- Assumes nothing.
-use Prim.Native.Nat.{ℕ}
-use mathlib.Core.Path.{_≡_, refl, sym, ap, subst, _∙_}
+use mathlib.Core.Path.{_≡_, refl, sym, ap, subst}
 use mathlib.Core.List.{List, [], _∷_, map}
 use lib.ListN.{length}
 use borrow.Author.Tests.{eq-eqb}
-use Rattle.memory.specs.Memory.{Memory}
 use Rattle.registers.specs.declared.Registers.{Registers}
 use Rattle.decisions.specs.Valid.{Words, Valid, Bytes}
-use Rattle.machine.specs.Step.{StepOf, stepOf}
-use Rattle.machine.specs.Run.{RunOf, runOf}
+use Rattle.machine.specs.Step.{stepOf}
+use Rattle.machine.specs.Run.{runOf}
 use Rattle.machine.proofs.Unmade.{unmoved}
 use Rattle.machine.proofs.Stays.{Sound, step-sound, run-sound, run-refuses}
 use Rattle.series.specs.Calls.{Kind, step, run, State, state, after, afterAll}
 use Rattle.series.specs.Claim.{Follows}
 use Rattle.records.specs.CoreRecord.{registersIn, requestsIn, rangesOf}
-use Rattle.deqbaryn.specs.Host.{stepStored, runStored}
-use Rattle.deqbaryn.specs.Calls.{HostCall, callOf, leftBy, leaves, leavesAll, HandedOn, HostFollows}
+use Rattle.deqbaryn.specs.Calls.{HostCall, callOf, leaves, leavesAll, HandedOn, HostFollows}
 use Rattle.deqbaryn.proofs.Hosts.{step-stored, run-stored}
 
 words : {r : Registers} → Valid r → Words 16 (r .d) × Words 16 (r .a) × Words 10 (r .core)

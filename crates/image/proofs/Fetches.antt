@@ -1,17 +1,16 @@
 -- The fetch: the records from a PC on, one after the other, and their bounds.
 -- Assumes nothing.
 use Prim.Native.Nat.{ℕ, _+_, _-_, _*_, _≤_, _<_}
-use native.Mathlib.Decide.{ℕ-discrete}
 use native.Mathlib.Omega.{arith}
-use mathlib.Core.Path.{_≡_, refl, ap, _∙_}
+use mathlib.Core.Path.{_≡_, refl, _∙_}
 use mathlib.Core.List.{List}
 use borrow.Author.Tests.{eq-eqb, ne-eqb}
 use lib.ListN.{length}
-use Rattle.image.specs.Table.{entriesOf, entryAt, bodiesOf}
+use Rattle.image.specs.Table.{entryAt, bodiesOf}
 use Rattle.image.specs.Records.{totalOf}
 use Rattle.image.specs.Rest.{rest, restOf, Begins}
-use Rattle.image.specs.Rules.{recordsBefore, EntryAt, TableRight, ImageRight}
-use Rattle.image.specs.Fetch.{instructionAt, fetchBy, fetchOf, FieldsHold, Bounded, FetchSays}
+use Rattle.image.specs.Rules.{recordsBefore, EntryAt, ImageRight}
+use Rattle.image.specs.Fetch.{instructionAt, fetchBy, fetchOf, FieldsHold, FetchSays}
 use Rattle.image.specs.declared.fetch.Rest.{Rest}
 use Rattle.image.specs.declared.fetch.Fetched.the-variants.{Found, Nothing}
 use Rattle.image.proofs.Rests.{Stands, none, some, stands, rest-of}

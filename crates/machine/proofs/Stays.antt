@@ -1,7 +1,6 @@
 -- Over a step and a run registers stay words and bytes stay bytes; and a run that is accepted is not refused later.
 -- Assumes nothing.
 use Prim.Native.Nat.{ℕ, zero, suc, _+_}
-use native.Mathlib.Omega.{arith}
 use mathlib.Core.Path.{_≡_, refl, ap, _∙_}
 use mathlib.Core.List.{List}
 use Rattle.memory.specs.Memory.{Memory}
@@ -9,7 +8,6 @@ use Rattle.registers.specs.Registers.{pc}
 use Rattle.registers.specs.declared.Registers.{Registers}
 use Rattle.events.specs.declared.event.Event.{Event}
 use Rattle.events.specs.declared.event.Event.the-variants as event
-use Rattle.events.specs.declared.event.Stop.{Stop}
 use Rattle.events.specs.declared.event.Ending.{Ending}
 use Rattle.events.specs.declared.event.Ending.the-variants as ending
 use Rattle.protection.specs.declared.range.Range.{Range}
@@ -26,7 +24,7 @@ use Rattle.machine.specs.Inner.{Ready}
 use Rattle.machine.specs.declared.answer.Outcome.{Outcome}
 use Rattle.machine.specs.declared.answer.Outcome.the-variants.{Made, Stopped, Refused}
 use Rattle.machine.proofs.Turns.{ready-next, run-made, run-stopped}
-use Rattle.machine.proofs.Singles.{run-refused, run-accepted, refused-keeps}
+use Rattle.machine.proofs.Singles.{run-refused, run-accepted, refused-keeps, not-refused}
 
 -- what the code can hold
 pub record Sound (r : Registers) (m : Memory) : Type 0 where
@@ -74,15 +72,9 @@ module _ {img : List ℕ} (image : Bytes img) (rs : List Range) where
       by (verdict.Refused x) = h
 
   -- ---- no refusal after an accepted start
-  made-refused : {e : Event} {x : Refusal} → Made e ≡ Refused x → ⊥
-  made-refused p = let z : _≡_ {A = ℕ} 0 1 = cc in omega arith
-
-  stopped-refused : {s : Stop} {x : Refusal} → Stopped s ≡ Refused x → ⊥
-  stopped-refused p = let z : _≡_ {A = ℕ} 0 1 = cc in omega arith
-
   from-accepted : (n : ℕ) (last : Event) (made : ℕ) {r : Registers} {m : Memory} → Ready img r m → (xs : List ℕ) (x : Refusal) → runFrom n img rs (Made last) made r xs m .outcome ≡ Refused x → ⊥
   unfolding runFrom
-  from-accepted zero last made y xs x p = made-refused p
+  from-accepted zero last made y xs x p = not-refused (ending.Made last) refl x p
   from-accepted (suc n) last made {r} {m} y xs x p =
       let v = oneOf img r xs rs m in
       by (v .ending) refl (λ e. from-accepted n e (made + 1) (ready-next y xs rs v refl) (requestsOf r xs) x)
@@ -90,7 +82,7 @@ module _ {img : List ℕ} (image : Bytes img) (rs : List Range) where
       by : (d : Ending) → oneOf img r xs rs m .ending ≡ d
           → ((e : Event) → runFrom n img rs (Made e) (made + 1) (oneOf img r xs rs m .registers) (requestsOf r xs) (oneOf img r xs rs m .memory) .outcome ≡ Refused x → ⊥) → ⊥
       by (ending.Made e) g next = next e (ap (λ (w : RunOf). w .outcome) (run-made y xs rs (oneOf img r xs rs m) refl n made (Made last) e g) ∙ p)
-      by (ending.Stopped s) g next = stopped-refused (ap (λ (w : RunOf). w .outcome) (run-stopped y xs rs (oneOf img r xs rs m) refl n made (Made last) s g) ∙ p)
+      by (ending.Stopped s) g next = not-refused (ending.Stopped s) refl x (ap (λ (w : RunOf). w .outcome) (run-stopped y xs rs (oneOf img r xs rs m) refl n made (Made last) s g) ∙ p)
 
   pub run-refuses : (n : ℕ) {r : Registers} {m : Memory} → Sound r m → (xs : List ℕ) → RefusedKeeps r xs m (runOf n img r xs rs m)
   run-refuses n {r} {m} h xs = by (stepVerdict m img (pc r)) refl

@@ -27,7 +27,7 @@ use Rattle.execute.specs.declared.Executed.the-variants as executed
 use Rattle.decisions.specs.Phases.{oneOf, instructionOf, requestsOf}
 use Rattle.machine.specs.Run.{runFrom}
 use Rattle.spans.specs.Spans.{SpanHolds}
-use Rattle.machine.specs.Inner.{Ready, paced, pacedAfter, leftBy, Paces}
+use Rattle.machine.specs.Inner.{Ready, paced, pacedAfter, Paces}
 use Rattle.machine.specs.declared.answer.Outcome.{Outcome}
 use Rattle.machine.specs.declared.answer.Outcome.the-variants as outcome
 use Rattle.spans.specs.declared.Span.{Span}

@@ -30,7 +30,7 @@ use Rattle.image.specs.declared.fetch.Fetched.the-variants.{Found, Nothing}
 use Rattle.inputs.specs.Checks.{stepVerdict}
 use Rattle.inputs.specs.declared.verdict.Refusal.{Refusal}
 use Rattle.inputs.specs.declared.verdict.Verdict.the-variants.{Accepted, Refused}
-use Rattle.permits.specs.Permits.{Access, none, access, dataBy, dataIn, dataAt, fetchAsked, dataAsked, fetchOfStep, dataOfStep, isPermitted, PermitSays}
+use Rattle.permits.specs.Permits.{Access, none, access, dataBy, dataIn, dataAt, fetchAsked, dataAsked, fetchOfStep, dataOfStep, PermitSays}
 use Rattle.permits.specs.declared.Permit.{Permit}
 use Rattle.permits.specs.declared.Permit.the-variants.{Unasked, By}
 

@@ -5,7 +5,7 @@ use native.Mathlib.Omega.{arith}
 use mathlib.Core.Path.{_≡_, sym, ap, _∙_}
 use mathlib.Core.Logic.{_⊎_, inl, inr, ⊎-elim}
 use mathlib.Core.List.{List}
-use lib.ListN.{length, getD, take, drop}
+use lib.ListN.{length, getD, drop}
 use lib.Seq.{ext-getD, getD-take, getD-drop}
 use Rattle.memory.specs.Word.{wordAt, wordsAt, putWord, putWords}
 use Rattle.memory.proofs.Words.{putWord-byte, putWord-length, putWord-same, putWords-byte, putWords-at, putWords-length}

@@ -12,7 +12,7 @@ use Rattle.areas.specs.Place.{placeOf}
 use Rattle.areas.specs.Area.{areaAt}
 use Rattle.areas.specs.declared.link.Link.{Link}
 use Rattle.areas.specs.declared.link.Place.the-variants.{At}
-use Rattle.lists.specs.Lists.{Leads, one, count}
+use Rattle.lists.specs.Lists.{Leads, count}
 use Rattle.lists.proofs.Counts.{one-self}
 use Rattle.series.specs.Abstract.{SavedContext, held, links}
 use Rattle.series.specs.Claim.{end, Stacked}

@@ -14,13 +14,13 @@ use Rattle.bounds.proofs.Fields.{pcxi-link, pcxi-ul}
 use Rattle.registers.specs.Registers.{pcxi, fcx, icr}
 use Rattle.registers.specs.declared.Registers.{Registers}
 use Rattle.areas.specs.Link.{linkOf, addressOf}
-use Rattle.areas.specs.Place.{placed, placeOf}
+use Rattle.areas.specs.Place.{placeOf}
 use Rattle.areas.specs.Area.{areaAt}
 use Rattle.areas.specs.declared.link.Link.{Link}
 use Rattle.areas.specs.declared.link.Place.the-variants.{At}
 use Rattle.areas.proofs.Places.{apart, placed-at}
 use Rattle.areas.proofs.Parts.{area-first}
-use Rattle.lists.specs.Lists.{Leads, one, count}
+use Rattle.lists.specs.Lists.{Leads, count}
 use Rattle.lists.proofs.Counts.{one-self}
 use Rattle.contexts.specs.Context.{ulOf, upperOf, lowerOf}
 use Rattle.contexts.specs.declared.context.Half.{Half}

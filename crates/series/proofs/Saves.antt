@@ -5,7 +5,7 @@ use native.Mathlib.Omega.{arith}
 use mathlib.Core.Path.{_≡_, refl, sym, ap, subst, _∙_}
 use mathlib.Core.Bool.{Bool, true, false}
 use mathlib.Core.List.{List, [], _∷_}
-use lib.ListN.{length, getD, set}
+use lib.ListN.{length, set}
 use lib.Seq.{getD-set-other}
 use lib.Dec.{eqb}
 use borrow.Author.Tests.{eq-eqb, ne-eqb}
@@ -19,7 +19,7 @@ use Rattle.events.specs.Traps.{FCD}
 use Rattle.events.specs.declared.event.Event.{Event}
 use Rattle.events.specs.declared.event.Stop.{Stop}
 use Rattle.events.specs.declared.event.Stop.the-variants.{NoArea}
-use Rattle.events.specs.declared.event.Ending.the-variants.{Made, Stopped}
+use Rattle.events.specs.declared.event.Ending.the-variants.{Stopped}
 use Rattle.areas.specs.Link.{linkOf}
 use Rattle.areas.specs.Place.{placeOf}
 use Rattle.areas.specs.declared.link.Link.{Link}
@@ -31,13 +31,13 @@ use Rattle.contexts.specs.Save.{roomOf}
 use Rattle.contexts.specs.declared.context.Half.{Half}
 use Rattle.contexts.specs.declared.context.Half.the-variants.{Upper}
 use Rattle.contexts.specs.declared.save.Room.the-variants as room
-use Rattle.contexts.proofs.Rooms.{room-at, room-none, room-some}
+use Rattle.contexts.proofs.Rooms.{never-room, room-at, room-none, room-some}
 use Rattle.entries.specs.Entry.{MadeOf, trapEntry}
 use Rattle.decisions.specs.Valid.{Valid}
 use Rattle.decisions.proofs.Families.{small}
 use Rattle.decisions.proofs.Thens.{Then, withHeads, head-fcx, head-pcxi, trap-then}
 use Rattle.decisions.proofs.Savings.{afterSave, reached, savedBytes, fcdRegisters, SavingCase, lacks, lacks-second, saves, depletes}
-use Rattle.decisions.proofs.Steps.{after-valid}
+use Rattle.decisions.proofs.Steps.{never-made, after-valid}
 use Rattle.series.specs.Abstract.{upperRegisters, named, SavedContext, context, AbstractLists, lists, SaveOf, saveOne, saveTwo}
 use Rattle.series.specs.Calls.{state}
 use Rattle.series.specs.Claim.{end}
@@ -50,9 +50,6 @@ no-room m w e = sym (room-none (m .base) (length (m .bytes)) w (linkOf w) refl (
 
 some-room : (m : Memory) (w at : ℕ) → (linkOf w .0 ≡ 0 → ⊥) → placeOf m (linkOf w) ≡ At at → roomOf m w ≡ room.At at
 some-room m w at z p = sym (room-some (m .base) (length (m .bytes)) w (linkOf w) refl z (placeOf m (linkOf w)) refl at p)
-
-never : {s : Stop} {at : ℕ} → room.Stops s ≡ room.At at → ⊥
-never e = let z : _≡_ {A = ℕ} 0 1 = cc in omega arith
 
 -- ---- PCXI by the link, and the upper registers without the heads
 pcxi-by : (icr fcx : ℕ) (ul : Bool) (l : Link) → linkOf fcx ≡ l → pcxiOf icr ul fcx ≡ pcxiOf icr ul (l .0)
@@ -75,9 +72,6 @@ module _ (e : Event) (half : Half) (saved-pc : ℕ) (h : saved-pc < 2 ^ 32) (the
   pub record Saved (b : AbstractLists) (x : MadeOf) : Type 0 where
     pub inv : Inv L (state (x .registers) (x .memory)) (saveOne s (b .free) b)
     pub stays : (y : Stop) → x .ending ≡ Stopped y → saveOne s (b .free) b ≡ b
-
-  never-made : {v : Event} {y : Stop} → Made v ≡ Stopped y → ⊥
-  never-made g = let z : _≡_ {A = ℕ} 0 1 = cc in omega arith
 
   module _ (w : Valid r) where
     abbrev q : ℕ → Registers
@@ -139,11 +133,11 @@ module _ (e : Event) (half : Half) (saved-pc : ℕ) (h : saved-pc < 2 ^ 32) (the
 
     saved-by : (fs : List Link) (cs : List SavedContext) → Inv L (state r m) (lists fs cs) → (x : MadeOf) → SavingCase e half saved-pc then r m x → Saved (lists fs cs) x
     saved-by [] cs i x (lacks y k) = record { inv = i; stays = λ y′ g. refl }
-    saved-by [] cs i x (lacks-second y at k g c) = absurd (never (sym (no-room m (fcx r) (i .agree .free)) ∙ k))
-    saved-by [] cs i x (saves at k g) = absurd (never (sym (no-room m (fcx r) (i .agree .free)) ∙ k))
-    saved-by [] cs i x (depletes at second k g c) = absurd (never (sym (no-room m (fcx r) (i .agree .free)) ∙ k))
+    saved-by [] cs i x (lacks-second y at k g c) = absurd (never-room (sym (no-room m (fcx r) (i .agree .free)) ∙ k))
+    saved-by [] cs i x (saves at k g) = absurd (never-room (sym (no-room m (fcx r) (i .agree .free)) ∙ k))
+    saved-by [] cs i x (depletes at second k g c) = absurd (never-room (sym (no-room m (fcx r) (i .agree .free)) ∙ k))
     saved-by (l ∷ ls) cs i x (lacks y k) =
-        let f = i .agree .free in absurd (never (sym k ∙ some-room m (fcx r) (f .2) (f .1) (f .3)))
+        let f = i .agree .free in absurd (never-room (sym k ∙ some-room m (fcx r) (f .2) (f .1) (f .3)))
     saved-by (l ∷ ls) cs i x (saves at k g) =
         let d : eqb (l .0) (linkOf (lcx r) .0) ≡ false = ne-eqb (l .0) (linkOf (lcx r) .0) (λ z. g (is-limit l ls cs i ∙ z)) in
         record { inv = rw d (one-save l ls cs i at k); stays = λ y z. absurd (never-made z) }
@@ -151,9 +145,9 @@ module _ (e : Event) (half : Half) (saved-pc : ℕ) (h : saved-pc < 2 ^ 32) (the
         let d : eqb (l .0) (linkOf (lcx r) .0) ≡ true = eq-eqb (l .0) (linkOf (lcx r) .0) (sym (is-limit l [] cs i) ∙ g) in
         record { inv = rw d i; stays = λ y′ z. (rw d refl) }
     saved-by (l ∷ j ∷ ls) cs i x (lacks-second y at k g c) =
-        let f = next-room l (j ∷ ls) cs i at k in absurd (never (sym c ∙ some-room m (wordAt (m .bytes) at) (f .2) (f .1) (f .3)))
+        let f = next-room l (j ∷ ls) cs i at k in absurd (never-room (sym c ∙ some-room m (wordAt (m .bytes) at) (f .2) (f .1) (f .3)))
     saved-by (l ∷ []) cs i x (depletes at second k g c) =
-        absurd (never (sym (no-room m (wordAt (m .bytes) at) (next-room l [] cs i at k)) ∙ c))
+        absurd (never-room (sym (no-room m (wordAt (m .bytes) at) (next-room l [] cs i at k)) ∙ c))
     saved-by (l ∷ j ∷ ls) cs i x (depletes at second k g c) =
         let d : eqb (l .0) (linkOf (lcx r) .0) ≡ true = eq-eqb (l .0) (linkOf (lcx r) .0) (sym (is-limit l (j ∷ ls) cs i) ∙ g) in
         record { inv = rw d (two-saves l j ls cs i at second k c); stays = λ y z. absurd (never-made z) }

@@ -10,13 +10,12 @@ use mathlib.Core.List.{List, [], _∷_}
 use lib.ListN.{length, getD, set, length-set}
 use lib.Seq.{getD-set-same, getD-set-other}
 use Rattle.memory.specs.Memory.{Memory, memory}
-use Rattle.memory.specs.Word.{wordAt, putByte, putHalf, putWord}
+use Rattle.memory.specs.Word.{wordAt, putByte, putHalf}
 use Rattle.memory.proofs.Words.{putWord-byte}
-use Rattle.registers.specs.Registers.{pc, pcxi, fcx}
+use Rattle.registers.specs.Registers.{pcxi, fcx}
 use Rattle.registers.specs.declared.Registers.{Registers}
-use Rattle.events.specs.declared.event.Event.{Event}
 use Rattle.events.specs.declared.event.Stop.{Stop}
-use Rattle.events.specs.declared.event.Ending.the-variants.{Made, Stopped}
+use Rattle.events.specs.declared.event.Ending.the-variants.{Stopped}
 use Rattle.areas.specs.Link.{linkOf, addressOf}
 use Rattle.areas.specs.Place.{placeOf}
 use Rattle.areas.specs.Area.{areaAt}
@@ -41,6 +40,7 @@ use Rattle.decisions.proofs.Thens.{ReturnThen}
 use Rattle.decisions.proofs.Memories.{bytes-stored, stored-length}
 use Rattle.decisions.proofs.Decides.{DecisionSound}
 use Rattle.decisions.proofs.Savings.{saving-case}
+use Rattle.decisions.proofs.Steps.{never-made}
 use Rattle.decisions.proofs.Returnings.{loadedAt, loaded-valid, ReturningCase, outside, returns, returning-case}
 use Rattle.series.specs.Abstract.{named, held, SavedContext, AbstractLists, lists, links, moveOf, returnOne, moved}
 use Rattle.series.specs.Calls.{state}
@@ -110,9 +110,6 @@ module _ {L : List Link} {r : Registers} {m : Memory} {b : AbstractLists} (i : I
 -- ---- a return
 abbrev pub Restores : Half → Registers → AbstractLists → Type 0
 Restores half q b = (c : SavedContext) × (cs : List SavedContext) × (b .saved ≡ c ∷ cs) × (c .half ≡ half) × (named half q ≡ c .registers)
-
-never-made : {v : Event} {y : Stop} → Made v ≡ Stopped y → ⊥
-never-made g = let z : _≡_ {A = ℕ} 0 1 = cc in omega arith
 
 same-half : (h k : Half) → ulOf h ≡ ulOf k → h ≡ k
 same-half Upper Upper e = refl

@@ -5,7 +5,7 @@ use mathlib.Core.List.{List, [], _∷_, _++_}
 use Rattle.memory.specs.Memory.{Memory}
 use Rattle.memory.specs.Word.{wordAt}
 use Rattle.fields.specs.Pcxi.{PCXI·UL}
-use Rattle.registers.specs.Registers.{pc, fcx, pcxi}
+use Rattle.registers.specs.Registers.{fcx, pcxi}
 use Rattle.registers.specs.declared.Registers.{Registers}
 use Rattle.areas.specs.Link.{linkOf}
 use Rattle.areas.specs.Place.{placeOf}

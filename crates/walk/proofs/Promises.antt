@@ -12,6 +12,7 @@ use denote.Laws.{Is}
 use denote.Plain.{UInt}
 use denote.Array.{Array}
 use borrow.Author.Tests.{lt-ltb, le-ltb}
+use Rattle.words.proofs.Truth.{never}
 use Rattle.memory.specs.Memory.{memory}
 use Rattle.registers.specs.Registers.{pc, fcx, pcxi}
 use Rattle.registers.specs.declared.Registers.{Registers}
@@ -27,9 +28,6 @@ use Rattle.walk.specs.Text.{headerText, refusedOf, longText}
 use Rattle.walk.specs.Walk.{walkFrom, walkOf, restOf, Block, Onward}
 use Rattle.walk.specs.declared.blocks.Walk.{Walk}
 use Rattle.walk.proofs.blocks.Walk as row
-
-never : true ≡ false → ⊥
-never e = let z : _≡_ {A = ℕ} 0 1 = cc in omega arith
 
 abbrev pub dueOf : List ℕ → Walk → List ℕ
 dueOf img w = walkFrom (100000 - w .made) img (w .made) (w .registers) (w .requests) (memory 0xD000_0000 (w .window))

@@ -1,5 +1,4 @@
 -- `operations::access_of` meets its contract. Assumes nothing.
-use native.Mathlib.Omega.{arith}
 use Rattle.operations.proofs.Accesses.{before-loads, loads, stores, past-stores}
 use Rattle.operations.proofs.access_of.Statement.{statement}
 use Rattle.operations.proofs.access_of.Tie as tie

@@ -1,6 +1,6 @@
 -- `permits::permit_record` meets its contract. Assumes nothing.
 use borrow.Author.Needs.{needs}
-use mathlib.Core.Path.{refl, sym, _∙_}
+use mathlib.Core.Path.{sym, _∙_}
 use native.Mathlib.Omega.{arith}
 use Rattle.registers.specs.Registers.{registers}
 use Rattle.protection.specs.Range.{rangesIn}
