@@ -9,7 +9,7 @@ use Rattle.decisions.specs.Valid.{Words, Valid, Bytes}
 use Rattle.machine.specs.Step.{stepOf}
 use Rattle.machine.specs.Run.{runOf}
 use Rattle.machine.proofs.Unmade.{unmoved}
-use Rattle.machine.proofs.Stays.{Sound, step-sound, run-sound, run-refuses}
+use Rattle.machine.proofs.Stays.{InBounds, step-bounds, run-bounds, run-refuses}
 use Rattle.series.specs.Calls.{Kind, step, run, State, state, after, afterAll}
 use Rattle.series.specs.Claim.{Follows}
 use Rattle.records.specs.CoreRecord.{registersIn, requestsIn, rangesOf}
@@ -20,17 +20,17 @@ words : {r : Registers} → Valid r → Words 16 (r .d) × Words 16 (r .a) × Wo
 words v = (v .d, v .a, v .core)
 
 -- ---- a call
-module _ (h : HostCall) (s : State) (sound : Sound (s .registers) (s .memory)) (l : length (h .core .bytes) ≡ 616) (reg : registersIn (h .core .bytes) ≡ s .registers) where
-  call-sound : (k : Kind) → h .kind ≡ k → (let t = after (callOf h) s in Sound (t .registers) (t .memory))
-  call-sound step e = rw e (step-sound (h .image .are) (rangesOf (h .core .bytes)) sound (requestsIn (h .core .bytes)))
-  call-sound (run n) e = rw e (run-sound (h .image .are) (rangesOf (h .core .bytes)) n sound (requestsIn (h .core .bytes)))
+module _ (h : HostCall) (s : State) (bounds : InBounds (s .registers) (s .memory)) (l : length (h .core .bytes) ≡ 616) (reg : registersIn (h .core .bytes) ≡ s .registers) where
+  call-bounds : (k : Kind) → h .kind ≡ k → (let t = after (callOf h) s in InBounds (t .registers) (t .memory))
+  call-bounds step e = rw e (step-bounds (h .image .are) (rangesOf (h .core .bytes)) bounds (requestsIn (h .core .bytes)))
+  call-bounds (run n) e = rw e (run-bounds (h .image .are) (rangesOf (h .core .bytes)) n bounds (requestsIn (h .core .bytes)))
 
   call-leaves : (k : Kind) → h .kind ≡ k → leaves h (s .memory) ≡ after (callOf h) s
   call-leaves step e =
       let bytes = h .core .bytes in
       let img = h .image .bytes in
       let v = stepOf img (s .registers) (requestsIn bytes) (rangesOf bytes) (s .memory) in
-      let w = words (step-sound (h .image .are) (rangesOf bytes) sound (requestsIn bytes) .valid) in
+      let w = words (step-bounds (h .image .are) (rangesOf bytes) bounds (requestsIn bytes) .valid) in
       rw (e, eq-eqb (length bytes) 616 l, reg)
       (ap (λ (q : Registers). state q (v .memory))
       (step-stored bytes l (v .registers) w (v .requests) (sym reg) (requestsIn bytes) (s .memory) (v .memory) img (rangesOf bytes) (v .outcome) (unmoved img (s .registers) (requestsIn bytes) (rangesOf bytes) (s .memory))))
@@ -38,17 +38,17 @@ module _ (h : HostCall) (s : State) (sound : Sound (s .registers) (s .memory)) (
       let bytes = h .core .bytes in
       let img = h .image .bytes in
       let v = runOf n img (s .registers) (requestsIn bytes) (rangesOf bytes) (s .memory) in
-      let w = words (run-sound (h .image .are) (rangesOf bytes) n sound (requestsIn bytes) .valid) in
+      let w = words (run-bounds (h .image .are) (rangesOf bytes) n bounds (requestsIn bytes) .valid) in
       rw (e, eq-eqb (length bytes) 616 l, reg)
       (ap (λ (q : Registers). state q (v .memory))
-      (run-stored bytes l (v .registers) w (v .requests) (sym reg) (requestsIn bytes) (s .memory) (v .memory) (v .outcome) (v .made) (run-refuses (h .image .are) (rangesOf bytes) n sound (requestsIn bytes))))
+      (run-stored bytes l (v .registers) w (v .requests) (sym reg) (requestsIn bytes) (s .memory) (v .memory) (v .outcome) (v .made) (run-refuses (h .image .are) (rangesOf bytes) n bounds (requestsIn bytes))))
 
 -- ---- a series
-all-leave : (hs : List HostCall) (s : State) → Sound (s .registers) (s .memory) → HandedOn hs s → leavesAll hs s ≡ afterAll (map callOf hs) s
-all-leave [] s sound p = refl
-all-leave (h ∷ hs) s sound (l, reg, rest) =
-    let e = call-leaves h s sound l reg (h .kind) refl in
-    let t = call-sound h s sound l reg (h .kind) refl in
+all-leave : (hs : List HostCall) (s : State) → InBounds (s .registers) (s .memory) → HandedOn hs s → leavesAll hs s ≡ afterAll (map callOf hs) s
+all-leave [] s bounds p = refl
+all-leave (h ∷ hs) s bounds (l, reg, rest) =
+    let e = call-leaves h s bounds l reg (h .kind) refl in
+    let t = call-bounds h s bounds l reg (h .kind) refl in
     rw e (all-leave hs (after (callOf h) s) t (subst (HandedOn hs) e rest))
 
 pub host-follows : (s : State) → Valid (s .registers) → Bytes (s .memory .bytes) → Follows s → HostFollows s

@@ -26,22 +26,22 @@ use Rattle.machine.specs.declared.answer.Outcome.the-variants.{Made, Sto
 use Rattle.machine.proofs.Turns.{ready-next, run-made, run-stopped}
 use Rattle.machine.proofs.Singles.{run-refused, run-accepted, refused-keeps, not-refused}
 
--- what the code can hold
-pub record Sound (r : Registers) (m : Memory) : Type 0 where
+-- registers are words, with PC even, and bytes are bytes
+pub record InBounds (r : Registers) (m : Memory) : Type 0 where
   pub valid : Valid r
   pub bytes : Bytes (m .bytes)
 
 module _ {img : List ℕ} (image : Bytes img) (rs : List Range) where
   -- ---- a step
-  pub step-sound : {r : Registers} {m : Memory} → Sound r m → (xs : List ℕ) → (let s = stepOf img r xs rs m in Sound (s .registers) (s .memory))
+  pub step-bounds : {r : Registers} {m : Memory} → InBounds r m → (xs : List ℕ) → (let s = stepOf img r xs rs m in InBounds (s .registers) (s .memory))
   unfolding stepOf
-  step-sound {r} {m} h xs = by-verdict (stepVerdict m img (pc r))
+  step-bounds {r} {m} h xs = by-verdict (stepVerdict m img (pc r))
     where
-      by-ending : (e : Ending) (q : Registers) (n : Memory) → Sound q n → (let s = acceptedBy r xs m e q n in Sound (s .registers) (s .memory))
+      by-ending : (e : Ending) (q : Registers) (n : Memory) → InBounds q n → (let s = acceptedBy r xs m e q n in InBounds (s .registers) (s .memory))
       by-ending (ending.Made e) q n k = k
       by-ending (ending.Stopped s) q n k = h
 
-      by-verdict : (v : Verdict) → (let s = steppedBy img r xs rs m v in Sound (s .registers) (s .memory))
+      by-verdict : (v : Verdict) → (let s = steppedBy img r xs rs m v in InBounds (s .registers) (s .memory))
       by-verdict verdict.Accepted =
           let v = oneOf img r xs rs m in
           let k = one-kept (h .valid) m (h .bytes) image xs rs in
@@ -49,26 +49,26 @@ module _ {img : List ℕ} (image : Bytes img) (rs : List Range) where
       by-verdict (verdict.Refused x) = h
 
   -- ---- a run
-  onward-sound : (made : ℕ) (o : Outcome) (s : StepOf) (next : RunOf) → Sound (s .registers) (s .memory) → Sound (next .registers) (next .memory)
-      → (let v = onward o made s next in Sound (v .registers) (v .memory))
-  onward-sound made (Made e) s next a b = b
-  onward-sound made (Stopped x) s next a b = a
-  onward-sound made (Refused x) s next a b = a
+  onward-bounds : (made : ℕ) (o : Outcome) (s : StepOf) (next : RunOf) → InBounds (s .registers) (s .memory) → InBounds (next .registers) (next .memory)
+      → (let v = onward o made s next in InBounds (v .registers) (v .memory))
+  onward-bounds made (Made e) s next a b = b
+  onward-bounds made (Stopped x) s next a b = a
+  onward-bounds made (Refused x) s next a b = a
 
-  from-sound : (n : ℕ) (last : Outcome) (made : ℕ) {r : Registers} {m : Memory} → Sound r m → (xs : List ℕ) → (let v = runFrom n img rs last made r xs m in Sound (v .registers) (v .memory))
+  from-bounds : (n : ℕ) (last : Outcome) (made : ℕ) {r : Registers} {m : Memory} → InBounds r m → (xs : List ℕ) → (let v = runFrom n img rs last made r xs m in InBounds (v .registers) (v .memory))
   unfolding runFrom
-  from-sound zero last made h xs = h
-  from-sound (suc n) last made {r} {m} h xs =
+  from-bounds zero last made h xs = h
+  from-bounds (suc n) last made {r} {m} h xs =
       let s = stepOf img r xs rs m in
-      let k = step-sound h xs in
-      onward-sound made (s .outcome) s (runFrom n img rs (s .outcome) (made + 1) (s .registers) (s .requests) (s .memory)) k (from-sound n (s .outcome) (made + 1) k (s .requests))
+      let k = step-bounds h xs in
+      onward-bounds made (s .outcome) s (runFrom n img rs (s .outcome) (made + 1) (s .registers) (s .requests) (s .memory)) k (from-bounds n (s .outcome) (made + 1) k (s .requests))
 
-  pub run-sound : (n : ℕ) {r : Registers} {m : Memory} → Sound r m → (xs : List ℕ) → (let v = runOf n img r xs rs m in Sound (v .registers) (v .memory))
+  pub run-bounds : (n : ℕ) {r : Registers} {m : Memory} → InBounds r m → (xs : List ℕ) → (let v = runOf n img r xs rs m in InBounds (v .registers) (v .memory))
   unfolding runOf
-  run-sound n {r} {m} h xs = by (stepVerdict m img (pc r))
+  run-bounds n {r} {m} h xs = by (stepVerdict m img (pc r))
     where
-      by : (v : Verdict) → (let w = runBy n img r xs rs m v in Sound (w .registers) (w .memory))
-      by verdict.Accepted = from-sound n (Made event.Instruction) 0 h xs
+      by : (v : Verdict) → (let w = runBy n img r xs rs m v in InBounds (w .registers) (w .memory))
+      by verdict.Accepted = from-bounds n (Made event.Instruction) 0 h xs
       by (verdict.Refused x) = h
 
   -- ---- no refusal after an accepted start
@@ -84,7 +84,7 @@ module _ {img : List ℕ} (image : Bytes img) (rs : List Range) where
       by (ending.Made e) g next = next e (ap (λ (w : RunOf). w .outcome) (run-made y xs rs (oneOf img r xs rs m) refl n made (Made last) e g) ∙ p)
       by (ending.Stopped s) g next = not-refused (ending.Stopped s) refl x (ap (λ (w : RunOf). w .outcome) (run-stopped y xs rs (oneOf img r xs rs m) refl n made (Made last) s g) ∙ p)
 
-  pub run-refuses : (n : ℕ) {r : Registers} {m : Memory} → Sound r m → (xs : List ℕ) → RefusedKeeps r xs m (runOf n img r xs rs m)
+  pub run-refuses : (n : ℕ) {r : Registers} {m : Memory} → InBounds r m → (xs : List ℕ) → RefusedKeeps r xs m (runOf n img r xs rs m)
   run-refuses n {r} {m} h xs = by (stepVerdict m img (pc r)) refl
     where
       by : (v : Verdict) → stepVerdict m img (pc r) ≡ v → RefusedKeeps r xs m (runOf n img r xs rs m)

@@ -69,7 +69,7 @@ pub fn read_ranges(core: &[u8]) -> [Range; 32]
     ranges
 }
 
-// Writes sixteen words from byte `at` on: of a fixed number, so that it is compiled without a loop.
+// Writes sixteen words from byte `at` on. A function of its own: with `put_words` in its place a single step moves more copies of the registers.
 fn put_sixteen(core: &mut [u8], at: usize, words: &[u32; 16])
     requires { ⌜ at + 64 ≤ length (now core) ⌝ }
     ensures { λ _. ⌜ now (core .exit) ≡ putWords (now (core .entry)) at (now (words .entry)) 16 ⌝ }
