@@ -1,16 +1,15 @@
 // Addition and subtraction with saturation (002, 8.1).
 
 use words::result::Flagged;
+use words::result::LARGEST;
+use words::result::LEAST;
 use words::result::saturated;
 use words::value::difference;
 use words::value::sum;
 ghost use mathlib.Core.Path.{_≡_};
 ghost use Rattle.arithmetic.specs.Arithmetic.{addsOf, addsuOf, subsOf, subsuOf};
 
-const LEAST: i64 = -0x8000_0000;
-
-const LARGEST: i64 = 0x7FFF_FFFF;
-
+// The largest unsigned word.
 const LARGEST_UNSIGNED: i64 = 0xFFFF_FFFF;
 
 pub fn adds(a: u32, b: u32) -> Flagged

@@ -98,7 +98,7 @@ module _ (quiet : Type 0) {r : Registers} (w : Valid r) where
 
     compare-sound : (op : Jump) → EndsSound quiet r (compareOf op i r)
     unfolding compareOf
-    compare-sound op = to (sound-start w) (branch-even (holds op (D r (i .a)) (secondOf (r .d) (i .b) (i .imm))))
+    compare-sound op = to (sound-start w) (branch-even (holds op (D r (i .a)) (D r (i .b))))
 
     loop-sound : EndsSound quiet r (loopOf i r)
     unfolding loopOf

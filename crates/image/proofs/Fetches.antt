@@ -32,7 +32,7 @@ module _ (img : List ℕ) (g : ImageRight img) (pc i j : ℕ) (b : Begins img pc
 
   record-bounded : (q : ℕ) → FieldsHold (instructionAt img (entryAt img i .offset + 8 * j) q)
   unfolding instructionAt
-  record-bounded q = rw at-index (let r = g .records index index-inside in (omega (arith, r .result), omega (arith, r .first), r .second))
+  record-bounded q = rw at-index (let r = g .records index index-inside in (omega (arith, r .result), omega (arith, r .first), r .second, λ t. (let k = r .compared t in omega arith)))
 
 -- ---- the records from pc on
 pub record RestBounds (img : List ℕ) (pc : ℕ) (r : Rest) : Type 0 where

@@ -16,7 +16,9 @@ use Rattle.image.specs.declared.table.TableCheck.{TableCheck}
 use Rattle.image.specs.declared.table.TableCheck.the-variants as table
 use Rattle.image.specs.declared.records.ImageCheck.{ImageCheck}
 use Rattle.image.specs.declared.records.ImageCheck.the-variants.{Holds, Table, Record}
+use Rattle.words.specs.Exactly.{Exactly}
 use Rattle.words.proofs.Truth.{never}
+use Rattle.words.proofs.Answers.{exactly}
 use Rattle.image.proofs.Tests.{record-right, right-record}
 use Rattle.image.proofs.Tables.{table-says, table-only}
 
@@ -120,6 +122,10 @@ module _ (img : List ℕ) where
       go (yes p) (yes q) = omega arith
       go (no p) q = absurd (s .fault (r .before j (lt-of-not-le p)))
       go (yes p) (no q) = absurd (r .fault (s .before k (lt-of-not-le q)))
+
+  -- so it is given exactly where they say it
+  pub image-exactly : (r : ImageCheck) → r ≡ imageOf img → (r ≡ imageOf img) × Exactly (ImageSays img) r
+  image-exactly = exactly (ImageSays img) (imageOf img) image-says (λ x p. image-only x (imageOf img) p image-says)
 
   pub image-right : ImageHolds img → ImageRight img
   image-right e = subst (ImageSays img) e image-says

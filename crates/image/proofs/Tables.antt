@@ -16,7 +16,9 @@ use Rattle.image.specs.Rules.{startOf, floorOf, EntryAt, Counted, TableR
 use Rattle.image.specs.declared.table.Entry.{Entry}
 use Rattle.image.specs.declared.table.TableCheck.{TableCheck}
 use Rattle.image.specs.declared.table.TableCheck.the-variants.{Holds, Fault}
+use Rattle.words.specs.Exactly.{Exactly}
 use Rattle.words.proofs.Truth.{never, either-false}
+use Rattle.words.proofs.Answers.{exactly}
 use Rattle.image.proofs.Tests.{entry-right, right-entry}
 
 -- ---- the cases of a turn
@@ -164,3 +166,7 @@ module _ (img : List ℕ) where
       same (left-over g b d e) (uncounted f) = absurd (f g)
       same (left-over g b d e) (at-entry g′ i′ h′ b′ d′ e′) = absurd (d′ (b i′ h′))
       same (left-over g b d e) (left-over g′ b′ d′ e′) = e ∙ sym e′
+
+  -- so it is given exactly where rule 2 says it
+  pub table-exactly : (r : TableCheck) → r ≡ tableOf img → (r ≡ tableOf img) × Exactly (TableSays img) r
+  table-exactly = exactly (TableSays img) (tableOf img) table-says (λ x p. table-only x (tableOf img) p table-says)

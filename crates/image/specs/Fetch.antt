@@ -1,12 +1,12 @@
 -- The record that begins at a PC.
 use Prim.Native.Nat.{ℕ, _+_, _*_, _%_, _^_, _≤_, _<_}
 use mathlib.Core.Path.{_≡_}
-use mathlib.Core.Bool.{cond}
+use mathlib.Core.Bool.{true, cond}
 use mathlib.Core.List.{List}
 use lib.ListN.{getD}
 use lib.Dec.{eqb}
 use Rattle.memory.specs.Word.{wordAt}
-use Rattle.operations.specs.Operations.{operationOf}
+use Rattle.operations.specs.Operations.{operationOf, compares}
 use Rattle.image.specs.Table.{entryAt}
 use Rattle.image.specs.Rest.{restOf, Begins}
 use Rattle.image.specs.declared.fetch.Instruction.{Instruction}
@@ -33,9 +33,9 @@ fetchBy img pc r = cond (eqb (r .records) 0) Nothing (Found (instructionAt img (
 unfoldable pub fetchOf : List ℕ → ℕ → Fetched
 fetchOf img pc = fetchBy img pc (restOf img pc)
 
--- a record's fields are in their bounds
+-- a record's fields are in their bounds: what rule 3 says of them
 abbrev pub FieldsHold : Instruction → Type 0
-FieldsHold i = (i .c < 16) × (i .a < 16) × (i .b ≤ 16)
+FieldsHold i = (i .c < 16) × (i .a < 16) × (i .b ≤ 16) × (compares (i .op) ≡ true → i .b < 16)
 
 abbrev pub Bounded : Fetched → Type 0
 Bounded (Found i) = FieldsHold i

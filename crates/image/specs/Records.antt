@@ -1,19 +1,21 @@
 -- The records: 8 bytes each. A record covers 4 addresses.
 use Prim.Native.Nat.{ℕ, zero, suc, _+_, _-_, _/_}
 use mathlib.Core.Path.{_≡_}
-use mathlib.Core.Bool.{Bool, cond, _&&_, _||_}
+use mathlib.Core.Bool.{Bool, cond, not, _&&_, _||_}
 use mathlib.Core.List.{List}
 use lib.ListN.{length, getD}
 use lib.Dec.{ltb, leb}
+use Rattle.operations.specs.Operations.{operations, operationOf, compares}
 use Rattle.image.specs.Table.{bodiesOf, tableOf}
 use Rattle.image.specs.declared.table.TableCheck.{TableCheck}
 use Rattle.image.specs.declared.table.TableCheck.the-variants as table
 use Rattle.image.specs.declared.records.ImageCheck.{ImageCheck}
 use Rattle.image.specs.declared.records.ImageCheck.the-variants.{Holds, Table, Record}
 
--- the operation is one of the 79, c and a are 0 to 15, b is 0 to 16; JEQ (57) to JGE.U (62) refuse 16
+-- the operation is one of the table, c and a are 0 to 15, b is 0 to 16; JEQ to JGE.U refuse 16
 unfoldable pub recordHolds : ℕ → ℕ → ℕ → ℕ → Bool
-recordHolds op c a b = leb op 78 && leb c 15 && leb a 15 && (leb b 15 || (leb b 16 && (ltb op 57 || ltb 62 op)))
+recordHolds op c a b =
+    ltb op (length operations) && leb c 15 && leb a 15 && leb b 16 && (leb b 15 || not (compares (operationOf op)))
 
 -- the record at byte `at`
 abbrev pub recordAt : List ℕ → ℕ → Bool

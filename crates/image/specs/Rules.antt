@@ -1,8 +1,10 @@
--- Rules 2 and 3 as plain statements. proofs/Rules.antt shows that the checks answer exactly these.
+-- Rules 2 and 3 as plain statements. The checks answer exactly these.
 use Prim.Native.Nat.{ℕ, zero, suc, _+_, _*_, _%_, _≤_, _<_}
 use mathlib.Core.Path.{_≡_}
+use mathlib.Core.Bool.{true}
 use mathlib.Core.List.{List}
 use lib.ListN.{length, getD}
+use Rattle.operations.specs.Operations.{operations, operationOf, compares}
 use Rattle.image.specs.Table.{entriesOf, entryAt, bodiesOf}
 use Rattle.image.specs.Records.{totalOf}
 use Rattle.image.specs.declared.table.Entry.{Entry}
@@ -61,13 +63,13 @@ abbrev pub TableSays : List ℕ → TableCheck → Type 0
 TableSays img table.Holds = TableRight img
 TableSays img (table.Fault p) = TableFault img p
 
--- a record's bytes are in their bounds
+-- a record's bytes are in their bounds; the operations that compare two registers refuse b = 16
 pub record RecordRight (op c a b : ℕ) : Type 0 where
-  pub operation : op ≤ 78
+  pub operation : op < length operations
   pub result : c ≤ 15
   pub first : a ≤ 15
   pub second : b ≤ 16
-  pub compared : (57 ≤ op) → (op ≤ 62) → b ≤ 15
+  pub compared : compares (operationOf op) ≡ true → b ≤ 15
 
 -- the record with index k over all bodies
 abbrev pub RecordAt : List ℕ → ℕ → Type 0

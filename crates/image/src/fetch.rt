@@ -47,7 +47,8 @@ pub fn read_record(image: &[u8], at: usize, pc: u32) -> Instruction
     }
 }
 
-fn wide(b: u8) -> usize
+// A byte as an index.
+pub fn wide(b: u8) -> usize
     ensures { λ r. ⌜ r ≡ b ⌝ }
 {
     b as usize

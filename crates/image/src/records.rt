@@ -3,10 +3,14 @@
 use crate::table::TableCheck;
 use crate::table::check_table;
 use memory::word_at;
+use operations::is_compare;
+use operations::is_operation;
 ghost use mathlib.Core.Path.{_≡_};
 ghost use Prim.Native.Nat.{_+_, _*_, _<_};
 ghost use Rattle.image.specs.Table.{bodiesOf, tableOf};
 ghost use Rattle.image.specs.Records.{recordHolds, recordsFrom, totalOf, imageOf};
+ghost use Rattle.image.specs.Rules.{ImageSays};
+ghost use Rattle.words.specs.Exactly.{Exactly};
 
 // Rules 2 and 3: the entry at fault, or the record at fault by its index over all bodies.
 pub enum ImageCheck {
@@ -19,7 +23,7 @@ pub enum ImageCheck {
 fn record_holds(op: u8, c: u8, a: u8, b: u8) -> bool
     ensures { λ r. ⌜ r ≡ recordHolds op c a b ⌝ }
 {
-    if 78 < op {
+    if !is_operation(op) {
         return false;
     }
     if 15 < c {
@@ -34,12 +38,12 @@ fn record_holds(op: u8, c: u8, a: u8, b: u8) -> bool
     if 16 < b {
         return false;
     }
-    op < 57 || 62 < op
+    !is_compare(op)
 }
 
 // The image: its table, then each record.
 pub fn check_image(image: &[u8]) -> ImageCheck
-    ensures { λ r. ⌜ r ≡ imageOf (now (image .entry)) ⌝ }
+    ensures { λ r. ⌜ (r ≡ imageOf (now (image .entry))) × Exactly (ImageSays (now (image .entry))) r ⌝ }
 {
     match check_table(image) {
         TableCheck::Fault(p) => ImageCheck::Table(p),

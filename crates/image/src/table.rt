@@ -5,6 +5,8 @@ ghost use mathlib.Core.Path.{_≡_};
 ghost use Prim.Native.Nat.{_+_, _*_, _≤_, _<_};
 ghost use lib.ListN.{length};
 ghost use Rattle.image.specs.Table.{entryAt, entryHolds, entriesFrom, tableOf};
+ghost use Rattle.image.specs.Rules.{TableSays};
+ghost use Rattle.words.specs.Exactly.{Exactly};
 
 pub struct Entry {
     pub load: u32,
@@ -58,7 +60,7 @@ fn entry_holds(e: Entry, start: u64, floor: u64, len: u64) -> bool
 
 // The table of contents.
 pub fn check_table(image: &[u8]) -> TableCheck
-    ensures { λ r. ⌜ r ≡ tableOf (now (image .entry)) ⌝ }
+    ensures { λ r. ⌜ (r ≡ tableOf (now (image .entry))) × Exactly (TableSays (now (image .entry))) r ⌝ }
 {
     let len = image.len();
     if len < 4 {

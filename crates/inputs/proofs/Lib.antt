@@ -1,3 +1,4 @@
 -- Laws of the rules.
 pub mod Windows
+pub mod Single
 pub mod Verdicts

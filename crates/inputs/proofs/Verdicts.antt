@@ -1,46 +1,47 @@
 -- A verdict is given exactly where its rule is the first at fault, and acceptance exactly where all rules hold.
 -- Assumes nothing.
-use Prim.Native.Nat.{ℕ, _%_, _≤_}
+use Prim.Native.Nat.{ℕ, _%_}
 use native.Mathlib.Decide.{ℕ-discrete}
 use mathlib.Core.Path.{_≡_, refl, sym, ap, _∙_}
 use mathlib.Core.Bool.{Bool, true, false}
 use mathlib.Core.List.{List}
 use borrow.Author.Tests.{eq-eqb, ne-eqb}
 use lib.ListN.{length}
+use Rattle.words.specs.Exactly.{Exactly}
+use Rattle.words.proofs.Answers.{exactly}
 use Rattle.memory.specs.Memory.{Memory}
 use Rattle.lists.specs.Walk.{listsOf}
 use Rattle.lists.specs.Lists.{ListsCome}
 use Rattle.lists.specs.declared.ListEnd.{ListEnd}
 use Rattle.lists.specs.declared.ListEnd.the-variants as list
-use Rattle.lists.proofs.Lists.{lists-come, lists-only, sound-of, of-sound}
+use Rattle.lists.proofs.Lists.{lists-come, sound-of, of-sound}
 use Rattle.image.specs.Records.{imageOf}
 use Rattle.image.specs.Rules.{ImageRight, ImageSays}
 use Rattle.image.specs.declared.records.ImageCheck.{ImageCheck}
 use Rattle.image.specs.declared.records.ImageCheck.the-variants as image
-use Rattle.words.proofs.Truth.{never}
-use Rattle.image.proofs.Images.{image-says, image-only}
+use Rattle.image.proofs.Images.{image-says}
 use Rattle.inputs.specs.Checks.{windowHolds, imageSaid, imageVerdict, pcVerdict, listsSaid, andThen, stepVerdict, startVerdict}
-use Rattle.inputs.specs.Rules.{WindowOf, Ready, StepSays, StartSays, Exactly}
+use Rattle.inputs.specs.Rules.{WindowOf, Even, Ready, StepSays, StartSays}
 use Rattle.inputs.specs.declared.verdict.Verdict.{Verdict}
 use Rattle.inputs.specs.declared.verdict.Verdict.the-variants.{Accepted, Refused}
 use Rattle.inputs.specs.declared.verdict.Refusal.{Refusal}
 use Rattle.inputs.specs.declared.verdict.Refusal.the-variants.{Window, Table, Record, OddPc, LinkOutside, MetAgain}
-use Rattle.inputs.proofs.Windows.{window-right, right-window}
+use Rattle.inputs.proofs.Single.{window-of, of-window, no-window, of-no-window, image-is, end-is}
 
 -- ---- rules 1 to 4
 module _ (m : Memory) (img : List ℕ) (pc : ℕ) where
-  pub window-refused : windowHolds (m .base) (length (m .bytes)) ≡ false → stepVerdict m img pc ≡ Refused Window
+  window-refused : windowHolds (m .base) (length (m .bytes)) ≡ false → stepVerdict m img pc ≡ Refused Window
   unfolding stepVerdict
   window-refused e = rw e
 
-  pub window-passed : windowHolds (m .base) (length (m .bytes)) ≡ true → stepVerdict m img pc ≡ andThen (imageVerdict img) (pcVerdict pc)
+  window-passed : windowHolds (m .base) (length (m .bytes)) ≡ true → stepVerdict m img pc ≡ andThen (imageVerdict img) (pcVerdict pc)
   unfolding stepVerdict
   window-passed e = rw e
 
   pc-says : WindowOf m → ImageRight img → StepSays m img pc (pcVerdict pc)
   pc-says w i = go (ℕ-discrete (pc % 2) 0)
     where
-      go : Dec (pc % 2 ≡ 0) → StepSays m img pc (pcVerdict pc)
+      go : Dec (Even pc) → StepSays m img pc (pcVerdict pc)
       go (yes e) = rw (eq-eqb (pc % 2) 0 e) (record { window = w; image = i; even = e })
       go (no d) = rw (ne-eqb (pc % 2) 0 d) (w, i, d)
 
@@ -54,47 +55,37 @@ module _ (m : Memory) (img : List ℕ) (pc : ℕ) where
   step-says = go (windowHolds (m .base) (length (m .bytes))) refl
     where
       go : (t : Bool) → windowHolds (m .base) (length (m .bytes)) ≡ t → StepSays m img pc (stepVerdict m img pc)
-      go true e = rw (window-passed e) (image-verdict (window-right (m .base) (length (m .bytes)) e) (imageOf img) (image-says img))
-      go false e = rw (window-refused e) (λ w. never (sym (right-window (m .base) (length (m .bytes)) w) ∙ e))
+      go true e = rw (window-passed e) (image-verdict (window-of m e) (imageOf img) (image-says img))
+      go false e = rw (window-refused e) (no-window m e)
 
   -- ---- and no other verdict is
-  holds-false : (WindowOf m → ⊥) → windowHolds (m .base) (length (m .bytes)) ≡ false
-  holds-false d = go (windowHolds (m .base) (length (m .bytes))) refl
-    where
-      go : (t : Bool) → windowHolds (m .base) (length (m .bytes)) ≡ t → t ≡ false
-      go true e = absurd (d (window-right (m .base) (length (m .bytes)) e))
-      go false e = refl
-
   passed : WindowOf m → stepVerdict m img pc ≡ andThen (imageVerdict img) (pcVerdict pc)
-  passed w = window-passed (right-window (m .base) (length (m .bytes)) w)
+  passed w = window-passed (of-window m w)
 
-  image-is : (c : ImageCheck) → ImageSays img c → imageOf img ≡ c
-  image-is c s = image-only img (imageOf img) c (image-says img) s
-
-  pub step-is : (v : Verdict) → StepSays m img pc v → stepVerdict m img pc ≡ v
-  step-is Accepted r = passed (r .window) ∙ rw (image-is image.Holds (r .image), eq-eqb (pc % 2) 0 (r .even))
-  step-is (Refused Window) d = window-refused (holds-false d)
-  step-is (Refused (Table entry)) (w, s) = passed w ∙ rw (image-is (image.Table entry) s)
-  step-is (Refused (Record index)) (w, s) = passed w ∙ rw (image-is (image.Record index) s)
-  step-is (Refused OddPc) (w, s, d) = passed w ∙ rw (image-is image.Holds s, ne-eqb (pc % 2) 0 d)
+  step-is : (v : Verdict) → StepSays m img pc v → stepVerdict m img pc ≡ v
+  step-is Accepted r = passed (r .window) ∙ rw (image-is img image.Holds (r .image), eq-eqb (pc % 2) 0 (r .even))
+  step-is (Refused Window) d = window-refused (of-no-window m d)
+  step-is (Refused (Table entry)) (w, s) = passed w ∙ rw (image-is img (image.Table entry) s)
+  step-is (Refused (Record index)) (w, s) = passed w ∙ rw (image-is img (image.Record index) s)
+  step-is (Refused OddPc) (w, s, d) = passed w ∙ rw (image-is img image.Holds s, ne-eqb (pc % 2) 0 d)
   step-is (Refused LinkOutside) s = absurd s
   step-is (Refused MetAgain) s = absurd s
 
-  pub step-exactly : {r : Verdict} → r ≡ stepVerdict m img pc → Exactly (StepSays m img pc) r
-  step-exactly e = record { says = rw e step-says; only = λ v s. sym (step-is v s) ∙ sym e }
+  pub step-exactly : (r : Verdict) → r ≡ stepVerdict m img pc → (r ≡ stepVerdict m img pc) × Exactly (StepSays m img pc) r
+  step-exactly = exactly (StepSays m img pc) (stepVerdict m img pc) step-says (λ v s. sym (step-is v s))
 
 -- ---- all six
 module _ (m : Memory) (img : List ℕ) (pc fcx pcxi : ℕ) where
-  lists-verdict : length (m .bytes) ≤ 65536 → Ready m img pc → (e : ListEnd) → ListsCome m fcx pcxi e → StartSays m img pc fcx pcxi (listsSaid e)
-  lists-verdict small r list.Whole c = (r, sound-of m small fcx pcxi c)
-  lists-verdict small r list.LinkOutside c = (r, c)
-  lists-verdict small r list.MetAgain c = (r, c)
+  lists-verdict : Ready m img pc → (e : ListEnd) → ListsCome m fcx pcxi e → StartSays m img pc fcx pcxi (listsSaid e)
+  lists-verdict r list.Whole c = (r, sound-of m (r .window .most) fcx pcxi c)
+  lists-verdict r list.LinkOutside c = (r, c)
+  lists-verdict r list.MetAgain c = (r, c)
 
-  pub start-refused : (r : Refusal) → stepVerdict m img pc ≡ Refused r → startVerdict m img pc fcx pcxi ≡ Refused r
+  start-refused : (r : Refusal) → stepVerdict m img pc ≡ Refused r → startVerdict m img pc fcx pcxi ≡ Refused r
   unfolding startVerdict
   start-refused r e = rw e
 
-  pub start-passed : stepVerdict m img pc ≡ Accepted → startVerdict m img pc fcx pcxi ≡ listsSaid (listsOf m fcx pcxi)
+  start-passed : stepVerdict m img pc ≡ Accepted → startVerdict m img pc fcx pcxi ≡ listsSaid (listsOf m fcx pcxi)
   unfolding startVerdict
   start-passed e = rw e
 
@@ -114,15 +105,14 @@ module _ (m : Memory) (img : List ℕ) (pc fcx pcxi : ℕ) where
       go (Refused r) e s = rw (start-refused r e) (from-step r s)
       go Accepted e s =
           rw (start-passed e)
-          (lists-verdict (s .window .most) s (listsOf m fcx pcxi) (lists-come m (s .window .most) fcx pcxi))
+          (lists-verdict s (listsOf m fcx pcxi) (lists-come m (s .window .most) fcx pcxi))
 
   lists-is : Ready m img pc → (e : ListEnd) → ListsCome m fcx pcxi e → startVerdict m img pc fcx pcxi ≡ listsSaid e
   lists-is r e c =
-      start-passed (step-is m img pc Accepted r)
-      ∙ ap listsSaid (lists-only m (r .window .most) fcx pcxi (listsOf m fcx pcxi) e (lists-come m (r .window .most) fcx pcxi) c)
+      start-passed (step-is m img pc Accepted r) ∙ ap listsSaid (end-is m fcx pcxi (r .window) e c)
 
   -- ---- and no other verdict is
-  pub start-is : (v : Verdict) → StartSays m img pc fcx pcxi v → startVerdict m img pc fcx pcxi ≡ v
+  start-is : (v : Verdict) → StartSays m img pc fcx pcxi v → startVerdict m img pc fcx pcxi ≡ v
   start-is Accepted (r, s) = lists-is r list.Whole (of-sound m (r .window .most) fcx pcxi s)
   start-is (Refused Window) d = start-refused Window (step-is m img pc (Refused Window) d)
   start-is (Refused (Table entry)) s = start-refused (Table entry) (step-is m img pc (Refused (Table entry)) s)
@@ -131,5 +121,5 @@ module _ (m : Memory) (img : List ℕ) (pc fcx pcxi : ℕ) where
   start-is (Refused LinkOutside) (r, c) = lists-is r list.LinkOutside c
   start-is (Refused MetAgain) (r, c) = lists-is r list.MetAgain c
 
-  pub start-exactly : {r : Verdict} → r ≡ startVerdict m img pc fcx pcxi → Exactly (StartSays m img pc fcx pcxi) r
-  start-exactly e = record { says = rw e start-says; only = λ v s. sym (start-is v s) ∙ sym e }
+  pub start-exactly : (r : Verdict) → r ≡ startVerdict m img pc fcx pcxi → (r ≡ startVerdict m img pc fcx pcxi) × Exactly (StartSays m img pc fcx pcxi) r
+  start-exactly = exactly (StartSays m img pc fcx pcxi) (startVerdict m img pc fcx pcxi) start-says (λ v s. sym (start-is v s))

@@ -33,7 +33,47 @@ pub record Ready (m : Memory) (img : List ℕ) (pc : ℕ) : Type 0 where
   pub image : ImageRight img
   pub even : Even pc
 
--- what a verdict says of the rules 1 to 4
+-- what a verdict says of rule 1
+abbrev pub WindowSays : Memory → Verdict → Type 0
+WindowSays m Accepted = WindowOf m
+WindowSays m (Refused Window) = WindowOf m → ⊥
+WindowSays m (Refused (Table entry)) = ⊥
+WindowSays m (Refused (Record index)) = ⊥
+WindowSays m (Refused OddPc) = ⊥
+WindowSays m (Refused LinkOutside) = ⊥
+WindowSays m (Refused MetAgain) = ⊥
+
+-- of rules 2 and 3
+abbrev pub ContentsSay : List ℕ → Verdict → Type 0
+ContentsSay img Accepted = ImageRight img
+ContentsSay img (Refused Window) = ⊥
+ContentsSay img (Refused (Table entry)) = TableFault img entry
+ContentsSay img (Refused (Record index)) = RecordFault img index
+ContentsSay img (Refused OddPc) = ⊥
+ContentsSay img (Refused LinkOutside) = ⊥
+ContentsSay img (Refused MetAgain) = ⊥
+
+-- of rule 4
+abbrev pub PcSays : ℕ → Verdict → Type 0
+PcSays pc Accepted = Even pc
+PcSays pc (Refused Window) = ⊥
+PcSays pc (Refused (Table entry)) = ⊥
+PcSays pc (Refused (Record index)) = ⊥
+PcSays pc (Refused OddPc) = Even pc → ⊥
+PcSays pc (Refused LinkOutside) = ⊥
+PcSays pc (Refused MetAgain) = ⊥
+
+-- of rules 5 and 6, of a window that rule 1 accepts
+abbrev pub ListsSay : Memory → ℕ → ℕ → Verdict → Type 0
+ListsSay m fcx pcxi Accepted = WindowOf m × Sound m fcx pcxi
+ListsSay m fcx pcxi (Refused Window) = WindowOf m → ⊥
+ListsSay m fcx pcxi (Refused (Table entry)) = ⊥
+ListsSay m fcx pcxi (Refused (Record index)) = ⊥
+ListsSay m fcx pcxi (Refused OddPc) = ⊥
+ListsSay m fcx pcxi (Refused LinkOutside) = WindowOf m × ListsCome m fcx pcxi list.LinkOutside
+ListsSay m fcx pcxi (Refused MetAgain) = WindowOf m × ListsCome m fcx pcxi list.MetAgain
+
+-- of the rules 1 to 4, in their order
 abbrev pub StepSays : Memory → List ℕ → ℕ → Verdict → Type 0
 StepSays m img pc Accepted = Ready m img pc
 StepSays m img pc (Refused Window) = WindowOf m → ⊥
@@ -52,8 +92,3 @@ StartSays m img pc fcx pcxi (Refused (Record index)) = WindowOf m × RecordFault
 StartSays m img pc fcx pcxi (Refused OddPc) = WindowOf m × ImageRight img × (Even pc → ⊥)
 StartSays m img pc fcx pcxi (Refused LinkOutside) = Ready m img pc × ListsCome m fcx pcxi list.LinkOutside
 StartSays m img pc fcx pcxi (Refused MetAgain) = Ready m img pc × ListsCome m fcx pcxi list.MetAgain
-
--- a verdict is what the rules say, and no other is: each number exactly where its rule is the first at fault, acceptance exactly where all hold
-pub record Exactly (Says : Verdict → Type 0) (r : Verdict) : Type 0 where
-  pub says : Says r
-  pub only : (v : Verdict) → Says v → v ≡ r

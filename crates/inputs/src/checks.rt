@@ -11,7 +11,8 @@ ghost use lib.ListN.{length};
 ghost use Rattle.memory.specs.Memory.{memory};
 ghost use Rattle.lists.specs.Walk.{listsOf};
 ghost use Rattle.inputs.specs.Checks.{windowHolds, windowVerdict, imageVerdict, pcVerdict, listsSaid, listsVerdict, stepVerdict, startVerdict};
-ghost use Rattle.inputs.specs.Rules.{StepSays, StartSays, Exactly};
+ghost use Rattle.inputs.specs.Rules.{WindowSays, ContentsSay, PcSays, ListsSay, StepSays, StartSays};
+ghost use Rattle.words.specs.Exactly.{Exactly};
 
 // Rule 1: where the window lies, and its length.
 fn window_holds(base: Address, len: usize) -> bool
@@ -37,7 +38,8 @@ fn window_holds(base: Address, len: usize) -> bool
 
 // Rule 1.
 pub fn check_window(base: Address, window: &[u8]) -> Verdict
-    ensures { λ r. ⌜ (r ≡ windowVerdict (memory (base .0) (now (window .entry)))) × (now (window .exit) ≡ now (window .entry)) ⌝ }
+    ensures { λ r. ⌜ (r ≡ windowVerdict (memory (base .0) (now (window .entry)))) × Exactly (WindowSays (memory (base .0) (now (window .entry)))) r ⌝ }
+    ensures unchanged { λ _. ⌜ now (window .exit) ≡ now (window .entry) ⌝ }
 {
     if window_holds(base, window.len()) {
         return Verdict::Accepted;
@@ -47,7 +49,8 @@ pub fn check_window(base: Address, window: &[u8]) -> Verdict
 
 // Rules 2 and 3.
 pub fn check_image(image: &[u8]) -> Verdict
-    ensures { λ r. ⌜ (r ≡ imageVerdict (now (image .entry))) × (now (image .exit) ≡ now (image .entry)) ⌝ }
+    ensures { λ r. ⌜ (r ≡ imageVerdict (now (image .entry))) × Exactly (ContentsSay (now (image .entry))) r ⌝ }
+    ensures unchanged { λ _. ⌜ now (image .exit) ≡ now (image .entry) ⌝ }
 {
     match image::records::check_image(image) {
         ImageCheck::Holds => Verdict::Accepted,
@@ -58,7 +61,7 @@ pub fn check_image(image: &[u8]) -> Verdict
 
 // Rule 4.
 pub fn check_pc(pc: u32) -> Verdict
-    ensures { λ r. ⌜ r ≡ pcVerdict pc ⌝ }
+    ensures { λ r. ⌜ (r ≡ pcVerdict pc) × Exactly (PcSays pc) r ⌝ }
 {
     if pc % 2 == 0 {
         return Verdict::Accepted;
@@ -68,7 +71,8 @@ pub fn check_pc(pc: u32) -> Verdict
 
 // Rules 5 and 6, of a window that rule 1 accepts: the free list from FCX, then the used one from PCXI.
 pub fn check_lists(base: Address, window: &[u8], fcx: u32, pcxi: u32) -> Verdict
-    ensures { λ r. ⌜ (r ≡ listsVerdict (memory (base .0) (now (window .entry))) fcx pcxi) × (now (window .exit) ≡ now (window .entry)) ⌝ }
+    ensures { λ r. ⌜ (r ≡ listsVerdict (memory (base .0) (now (window .entry))) fcx pcxi) × Exactly (ListsSay (memory (base .0) (now (window .entry))) fcx pcxi) r ⌝ }
+    ensures unchanged { λ _. ⌜ now (window .exit) ≡ now (window .entry) ⌝ }
 {
     if window_holds(base, window.len()) {
         return try_lists(base, window, fcx, pcxi);

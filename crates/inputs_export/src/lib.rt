@@ -10,7 +10,9 @@ use inputs::verdict::number;
 ghost use mathlib.Core.Path.{_≡_};
 ghost use Rattle.memory.specs.Memory.{memory};
 ghost use Rattle.image.specs.Records.{ImageHolds};
+ghost use Rattle.words.specs.Exactly.{Tells};
 ghost use Rattle.inputs.specs.Checks.{imageVerdict, listsVerdict, stepVerdict, startVerdict};
+ghost use Rattle.inputs.specs.Rules.{ContentsSay, ListsSay, StepSays, StartSays};
 ghost use Rattle.inputs_export.specs.Export.{verdictOf, fetchedOf, exportedFetch};
 
 // 0 for accepted; else the rule's number, and its place in the high word.
@@ -25,21 +27,21 @@ fn packed(v: Verdict) -> u64
 
 #[no_mangle]
 pub extern "C" fn deqbaryn_check_image(image: &[u8]) -> u64
-    ensures { λ r. ⌜ r ≡ verdictOf (imageVerdict (now (image .entry))) ⌝ }
+    ensures { λ r. ⌜ (r ≡ verdictOf (imageVerdict (now (image .entry)))) × Tells verdictOf (ContentsSay (now (image .entry))) r ⌝ }
 {
     packed(checks::check_image(image))
 }
 
 #[no_mangle]
 pub extern "C" fn deqbaryn_check_lists(base: u32, window: &[u8], fcx: u32, pcxi: u32) -> u64
-    ensures { λ r. ⌜ r ≡ verdictOf (listsVerdict (memory base (now (window .entry))) fcx pcxi) ⌝ }
+    ensures { λ r. ⌜ (r ≡ verdictOf (listsVerdict (memory base (now (window .entry))) fcx pcxi)) × Tells verdictOf (ListsSay (memory base (now (window .entry))) fcx pcxi) r ⌝ }
 {
     packed(checks::check_lists(Address(base), window, fcx, pcxi))
 }
 
 #[no_mangle]
 pub extern "C" fn deqbaryn_try_step(base: u32, window: &[u8], image: &[u8], pc: u32) -> u64
-    ensures { λ r. ⌜ r ≡ verdictOf (stepVerdict (memory base (now (window .entry))) (now (image .entry)) pc) ⌝ }
+    ensures { λ r. ⌜ (r ≡ verdictOf (stepVerdict (memory base (now (window .entry))) (now (image .entry)) pc)) × Tells verdictOf (StepSays (memory base (now (window .entry))) (now (image .entry)) pc) r ⌝ }
 {
     packed(checks::try_step(Address(base), window, image, pc))
 }
@@ -53,7 +55,7 @@ pub extern "C" fn deqbaryn_try_start(
     fcx: u32,
     pcxi: u32,
 ) -> u64
-    ensures { λ r. ⌜ r ≡ verdictOf (startVerdict (memory base (now (window .entry))) (now (image .entry)) pc fcx pcxi) ⌝ }
+    ensures { λ r. ⌜ (r ≡ verdictOf (startVerdict (memory base (now (window .entry))) (now (image .entry)) pc fcx pcxi)) × Tells verdictOf (StartSays (memory base (now (window .entry))) (now (image .entry)) pc fcx pcxi) r ⌝ }
 {
     packed(checks::try_start(Address(base), window, image, pc, fcx, pcxi))
 }

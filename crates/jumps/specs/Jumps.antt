@@ -5,7 +5,7 @@ use Rattle.compare.specs.Compare.{equals, lessSigned, lessUnsigned}
 use Rattle.operations.specs.declared.Jump.{Jump}
 use Rattle.operations.specs.declared.Jump.the-variants.{J, Jl, Ji, Jeq, Jne, Jlt, JltU, Jge, JgeU, Loop}
 use Rattle.image.specs.declared.fetch.Instruction.{Instruction}
-use Rattle.registers.specs.Registers.{D, A, pc, psw, withA, withPc, secondOf, plusOf, minusOf, even, guards}
+use Rattle.registers.specs.Registers.{D, A, pc, psw, withA, withPc, plusOf, minusOf, even, guards}
 use Rattle.registers.specs.declared.Registers.{Registers}
 use Rattle.events.specs.Traps.{GRWP}
 use Rattle.acts.specs.Acts.{Ended, ended, done}
@@ -31,9 +31,9 @@ holds Jge x y = not (lessSigned x y)
 holds JgeU x y = not (lessUnsigned x y)
 holds Loop x y = true
 
--- D[a] is compared with D[b]: rule 3 refuses b = 16, so the second operand is never the immediate
+-- JEQ to JGE.U compare D[a] with D[b]
 unfoldable pub compareOf : Jump → Instruction → Registers → Ended
-compareOf op i r = done (withPc (branchOf (holds op (D r (i .a)) (secondOf (r .d) (i .b) (i .imm))) (pc r) (i .imm) (i .next)) r)
+compareOf op i r = done (withPc (branchOf (holds op (D r (i .a)) (D r (i .b))) (pc r) (i .imm) (i .next)) r)
 
 -- LOOP jumps if A[a] isn't 0, then subtracts 1 modulo 2^32; 1/7 where A[a] may not be written
 unfoldable pub loopOf : Instruction → Registers → Ended

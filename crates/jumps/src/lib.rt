@@ -13,9 +13,11 @@ use registers::guarded;
 use registers::minus;
 use registers::new_pc;
 use registers::plus;
-use registers::second;
 ghost use mathlib.Core.Path.{_≡_};
+ghost use mathlib.Core.Bool.{true};
+ghost use Prim.Native.Nat.{_<_};
 ghost use Rattle.registers.specs.Registers.{registers};
+ghost use Rattle.operations.specs.Operations.{jumpCompares};
 ghost use Rattle.image.specs.Fetch.{FieldsHold};
 ghost use Rattle.acts.specs.Acts.{ended};
 ghost use Rattle.jumps.specs.Jumps.{targetOf, branchOf, holds, compareOf, loopOf, jumpOf};
@@ -62,11 +64,12 @@ fn compare_and_jump(
     op: Jump,
     i: Instruction,
 ) -> How
-    requires { ⌜ FieldsHold i ⌝ }
+    requires { ⌜ (i .a < 16) × (i .b < 16) ⌝ }
     ensures { λ r. ⌜ ended r (registers (now (d .exit)) (now (a .exit)) (now (core .exit))) ≡ compareOf op i (registers (now (d .entry)) (now (a .entry)) (now (core .entry))) ⌝ }
 {
     let x = i.a;
-    let taken = condition(op, d[x], second(d, i.b, i.imm));
+    let y = i.b;
+    let taken = condition(op, d[x], d[y]);
     core[PC] = branch(taken, core[PC], i.imm, i.next);
     How::Done
 }
@@ -85,7 +88,7 @@ fn execute_loop(d: &mut [u32; 16], a: &mut [u32; 16], core: &mut [u32; 10], i: I
     How::Done
 }
 
-// J to LOOP.
+// J to LOOP. A jump that compares has no immediate for an operand: rule 3 refuses b = 16.
 pub fn execute_jump(
     d: &mut [u32; 16],
     a: &mut [u32; 16],
@@ -93,7 +96,7 @@ pub fn execute_jump(
     op: Jump,
     i: Instruction,
 ) -> How
-    requires { ⌜ FieldsHold i ⌝ }
+    requires { ⌜ FieldsHold i × (jumpCompares op ≡ true → i .b < 16) ⌝ }
     ensures { λ r. ⌜ ended r (registers (now (d .exit)) (now (a .exit)) (now (core .exit))) ≡ jumpOf op i (registers (now (d .entry)) (now (a .entry)) (now (core .entry))) ⌝ }
 {
     match op {

@@ -19,7 +19,9 @@ use Rattle.areas.specs.declared.link.Place.the-variants.{At, Outside}
 use Rattle.lists.specs.declared.ListEnd.{ListEnd}
 use Rattle.lists.specs.declared.ListEnd.the-variants.{Whole, LinkOutside, MetAgain}
 use Rattle.lists.proofs.Counts.{same?, one-self, one-other}
+use Rattle.words.specs.Exactly.{Exactly}
 use Rattle.words.proofs.Truth.{never}
+use Rattle.words.proofs.Answers.{exactly}
 use Rattle.areas.proofs.Places.{apart, never-at}
 use Rattle.lists.proofs.Walks.{walk-whole, walk-outside, walk-again, walk-on}
 use Rattle.lists.proofs.Fuel.{Turn, ends, outside, again, onward, turn, unmet, unmet-le, unmet-set, mark-in}
@@ -242,6 +244,10 @@ module _ (m : Memory) (small : length (m .bytes) ≤ 65536) (fcx pcxi : ℕ) whe
   lists-only e f (at-used g i) (at-free d h) = absurd (d (comes-alike m [] [] refl (linkOf fcx) f Whole h g))
   lists-only e f (at-used g i) (at-used h j) =
       comes-alike m (g .met) (h .met) (comes-links m [] [] refl (linkOf fcx) Whole Whole g h) (linkOf pcxi) e f i j
+
+  -- so it is given exactly where they come to it
+  pub lists-exactly : (r : ListEnd) → r ≡ listsOf m fcx pcxi → (r ≡ listsOf m fcx pcxi) × Exactly (ListsCome m fcx pcxi) r
+  lists-exactly = exactly (ListsCome m fcx pcxi) (listsOf m fcx pcxi) lists-come (λ x p. lists-only x (listsOf m fcx pcxi) p lists-come)
 
   -- whole lists are sound ones: rules 5 and 6 hold
   pub sound-of : ListsCome m fcx pcxi Whole → Sound m fcx pcxi

@@ -11,6 +11,8 @@ ghost use Prim.Native.Nat.{_≤_};
 ghost use lib.ListN.{length};
 ghost use Rattle.memory.specs.Memory.{memory};
 ghost use Rattle.lists.specs.Walk.{walkOf, walked, listsOf};
+ghost use Rattle.lists.specs.Lists.{ListsCome};
+ghost use Rattle.words.specs.Exactly.{Exactly};
 
 // What a list comes to.
 pub enum ListEnd {
@@ -46,7 +48,7 @@ fn walk(window: &[u8], base: Address, head: Link, met: &mut [bool; 1024]) -> Lis
 // The free list from FCX, then the used one from PCXI.
 pub fn check(window: &[u8], base: Address, fcx: u32, pcxi: u32) -> ListEnd
     requires { ⌜ length (now window) ≤ 65536 ⌝ }
-    ensures { λ r. ⌜ r ≡ listsOf (memory (base .0) (now (window .entry))) fcx pcxi ⌝ }
+    ensures { λ r. ⌜ (r ≡ listsOf (memory (base .0) (now (window .entry))) fcx pcxi) × Exactly (ListsCome (memory (base .0) (now (window .entry))) fcx pcxi) r ⌝ }
 {
     let mut met = [false; 1024];
     let free = walk(window, base, link_of(fcx), &mut met);

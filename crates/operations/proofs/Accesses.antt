@@ -1,21 +1,20 @@
--- The data accesses by number: one test that is computed over the whole table.
+-- The data accesses by number.
 -- Assumes nothing.
-use Prim.Native.Nat.{ℕ, zero, suc, _+_, _≤_, _<_}
+use Prim.Native.Nat.{ℕ, _≤_, _<_}
 use native.Mathlib.Omega.{arith}
 use native.Mathlib.Nat.{lt-of-not-le}
 use native.Mathlib.Decide.{decLe}
-use mathlib.Core.Path.{_≡_, refl, ap, subst, sym, _∙_}
-use mathlib.Core.Bool.{Bool, true, cond, _&&_}
-use mathlib.Core.List.{List, [], _∷_}
-use lib.ListN.{length, getD, List·getD-eq-default}
+use mathlib.Core.Path.{_≡_, refl, ap, sym, _∙_}
+use mathlib.Core.Bool.{Bool, true, cond}
+use lib.ListN.{List·getD-eq-default}
 use lib.Dec.{ltb, eqb}
 use borrow.Author.Tests.{eqb-true, lt-ltb, le-ltb}
-use Rattle.words.proofs.Truth.{both-true}
 use Rattle.operations.specs.Operations.{operations, operationOf, accessOf}
 use Rattle.operations.specs.declared.Operation.{Operation}
 use Rattle.operations.specs.declared.Operation.the-variants.{Nop}
 use Rattle.operations.specs.declared.Access.{Access}
 use Rattle.operations.specs.declared.Access.the-variants.{Nothing, Read, Write}
+use Rattle.operations.proofs.Table.{every, in-table}
 
 abbrev pub code : Access → ℕ
 code Nothing = 0
@@ -40,28 +39,13 @@ codeBy n = cond (ltb n 44) 0 (cond (ltb n 50) 1 (cond (ltb n 54) 2 0))
 test : ℕ → Operation → Bool
 test n o = eqb (code (accessOf o)) (codeBy n)
 
--- the test passes at each operation of a list and its number, counted from i
-every : ℕ → List Operation → Bool
-every i [] = true
-every i (o ∷ os) = test i o && every (suc i) os
-
-from : (os : List Operation) (i : ℕ) → every i os ≡ true → (k : ℕ) → k < length os → test (i + k) (getD os k Nop) ≡ true
-unfolding every
-from [] i t k h = absurd (omega arith)
-from (o ∷ os) i t zero h = let e : i ≡ i + 0 = omega arith in subst (λ (m : ℕ). test m o ≡ true) e (both-true (test i o) (every (suc i) os) t .0)
-from (o ∷ os) i t (suc k) h =
-    let e : suc i + k ≡ i + suc k = omega arith in
-    subst (λ (m : ℕ). test m (getD os k Nop) ≡ true) e (from os (suc i) (both-true (test i o) (every (suc i) os) t .1) k (omega arith))
-
-computed : every 0 operations ≡ true
+computed : every test 0 operations ≡ true
 unfolding every test codeBy
 computed = refl
 
-in-table : (n : ℕ) → n < 79 → code (accessOf (operationOf n)) ≡ codeBy n
-unfolding operationOf test
-in-table n h =
-    let e : 0 + n ≡ n = omega arith in
-    eqb-true _ _ (subst (λ (m : ℕ). test m (getD operations n Nop) ≡ true) e (from operations 0 computed n h))
+coded : (n : ℕ) → n < 79 → code (accessOf (operationOf n)) ≡ codeBy n
+unfolding test
+coded n h = eqb-true _ _ (in-table test computed n h)
 
 by-code : (n : ℕ) (x : Access) → codeBy n ≡ code x → (54 ≤ n → x ≡ Nothing) → x ≡ accessOf (operationOf n)
 unfolding operationOf
@@ -69,7 +53,7 @@ by-code n x c past = go (decLe 79 n)
   where
     go : Dec (79 ≤ n) → x ≡ accessOf (operationOf n)
     go (yes h) = past (omega arith) ∙ ap accessOf (sym (List·getD-eq-default operations Nop h))
-    go (no h) = same-code _ _ (sym c ∙ sym (in-table n (lt-of-not-le h)))
+    go (no h) = same-code _ _ (sym c ∙ sym (coded n (lt-of-not-le h)))
 
 pub before-loads : (n : ℕ) → n < 44 → Nothing ≡ accessOf (operationOf n)
 unfolding codeBy

@@ -2,7 +2,9 @@
 
 use integer::Integer;
 ghost use mathlib.Core.Path.{_≡_};
-ghost use Rattle.operations.specs.Operations.{operationOf, accessOf};
+ghost use lib.ListN.{length};
+ghost use lib.Dec.{ltb};
+ghost use Rattle.operations.specs.Operations.{operations, operationOf, accessOf, compares};
 
 // The moves and the arithmetic of address registers.
 pub enum Move {
@@ -188,4 +190,21 @@ pub fn access_of(number: u8) -> Access
         return Access::Write;
     }
     Access::Nothing
+}
+
+// Whether a number is that of an operation.
+pub fn is_operation(number: u8) -> bool
+    ensures { λ r. ⌜ r ≡ ltb number (length operations) ⌝ }
+{
+    number < 79
+}
+
+// Whether the operation with a number compares two data registers: it takes no immediate.
+pub fn is_compare(number: u8) -> bool
+    ensures { λ r. ⌜ r ≡ compares (operationOf number) ⌝ }
+{
+    if number < 57 {
+        return false;
+    }
+    number < 63
 }

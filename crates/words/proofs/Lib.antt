@@ -6,3 +6,4 @@ pub mod Values
 pub mod Counts
 pub mod Masks
 pub mod Results
+pub mod Answers

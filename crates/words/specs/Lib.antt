@@ -2,3 +2,4 @@
 pub mod Bits
 pub mod Value
 pub mod Result
+pub mod Exactly

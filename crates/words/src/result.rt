@@ -6,9 +6,10 @@ use crate::value::low_bits;
 ghost use mathlib.Core.Path.{_≡_};
 ghost use Rattle.words.specs.Result.{advance, wrappedOf, carriedOf, saturatedOf};
 
-const LEAST: i64 = -0x8000_0000;
+// The least and the largest signed word.
+pub const LEAST: i64 = -0x8000_0000;
 
-const LARGEST: i64 = 0x7FFF_FFFF;
+pub const LARGEST: i64 = 0x7FFF_FFFF;
 
 // A result word with V and AV.
 pub struct Flagged {

@@ -8,6 +8,10 @@ use Rattle.execute.proofs.Families.{steady-integer, plain-move, plain-l
 use Rattle.execute.proofs.perform.Statement.{statement}
 use Rattle.execute.proofs.perform.Tie as tie
 
+-- what rule 3 says of a jump that compares
+execute-jump-requires : tie.Need-execute-jump-requires
+execute-jump-requires c κs = let h = c .before .before .before .before .before .before .before .pre in (h, λ t. h .3 (rw (c .before .before .before .before .op5 .given .1) t))
+
 returns : tie.Need-returns
 returns c = (performs _ _ _ _ (c .enum-told .given .1) (refl), steady-pc _ _)
 
@@ -47,7 +51,7 @@ perform-spec =
     (λ c. search needs)
     (λ c κs. search needs)
     (λ c. search needs)
-    (λ c κs. search needs)
+    execute-jump-requires
     (λ c. search needs)
     (λ c κs. search needs)
     (λ c. search needs)

@@ -4,7 +4,7 @@ use Rattle.inputs_export.proofs.deqbaryn_check_image.Statement.{stateme
 use Rattle.inputs_export.proofs.deqbaryn_check_image.Tie as tie
 
 returns : tie.Need-returns
-returns c = rw (← c .before .check-image .ensures .0) (c .packed .ensures)
+returns c = let e = c .before .check-image .ensures .0 in (rw (← e .0) (c .packed .ensures), record { answer = c .before .check-image .result; number = c .packed .ensures; exactly = e .1 })
 
 pub deqbaryn-check-image-spec : {M : Type 1} → statement M
 deqbaryn-check-image-spec = tie.close (tie.spec (λ c κs. search needs) (λ c κs. search needs) returns)

@@ -4,7 +4,7 @@ use Rattle.inputs_export.proofs.deqbaryn_check_lists.Statement.{stateme
 use Rattle.inputs_export.proofs.deqbaryn_check_lists.Tie as tie
 
 returns : tie.Need-returns
-returns c = rw (← c .before .check-lists .ensures .0) (c .packed .ensures)
+returns c = let e = c .before .check-lists .ensures .0 in (rw (← e .0) (c .packed .ensures), record { answer = c .before .check-lists .result; number = c .packed .ensures; exactly = e .1 })
 
 pub deqbaryn-check-lists-spec : {M : Type 1} → statement M
 deqbaryn-check-lists-spec = tie.close (tie.spec (λ c κs. search needs) (λ c κs. search needs) returns)

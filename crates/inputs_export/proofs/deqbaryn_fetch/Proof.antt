@@ -5,16 +5,16 @@ use Rattle.inputs_export.proofs.deqbaryn_fetch.Statement.{statement}
 use Rattle.inputs_export.proofs.deqbaryn_fetch.Tie as tie
 
 fetched-requires : tie.Need-fetched-requires
-fetched-requires c κs = sym (c .before .before .check-image .ensures) ∙ c .enum-told .given .1
+fetched-requires c κs = sym (c .before .before .check-image .ensures .0) ∙ c .enum-told .given .1
 
 returns : tie.Need-returns
-returns c = rw (← c .before .before .before .check-image .ensures, c .before .enum-told .given .1) (c .fetched .ensures)
+returns c = rw (← c .before .before .before .check-image .ensures .0, c .before .enum-told .given .1) (c .fetched .ensures)
 
 returns-2 : tie.Need-returns-2
-returns-2 c = rw (← c .before .before .check-image .ensures, c .enum-told2 .given .1)
+returns-2 c = rw (← c .before .before .check-image .ensures .0, c .enum-told2 .given .1)
 
 returns-3 : tie.Need-returns-3
-returns-3 c = rw (← c .before .before .check-image .ensures, c .enum-told3 .given .1)
+returns-3 c = rw (← c .before .before .check-image .ensures .0, c .enum-told3 .given .1)
 
 pub deqbaryn-fetch-spec : {M : Type 1} → statement M
 deqbaryn-fetch-spec =

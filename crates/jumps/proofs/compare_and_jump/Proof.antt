@@ -6,7 +6,7 @@ use Rattle.jumps.proofs.compare_and_jump.Tie as tie
 
 returns : tie.Need-returns
 unfolding compareOf
-returns c = rw (c .branch .ensures, c .before .before .condition .ensures, c .before .before .before .second .ensures)
+returns c = rw (c .branch .ensures, c .before .before .condition .ensures)
 
 pub compare-and-jump-spec : {M : Type 1} → statement M
 compare-and-jump-spec =
@@ -14,7 +14,8 @@ compare-and-jump-spec =
     (tie.spec
     (λ c. search needs)
     (λ c. search needs)
-    (λ c κs. search needs)
+    (λ c. search needs)
+    (λ c. search needs)
     (λ c κs. search needs)
     (λ c. search needs)
     (λ c κs. search needs)

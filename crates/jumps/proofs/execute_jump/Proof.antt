@@ -4,6 +4,24 @@ use Rattle.jumps.specs.Jumps.{jumpOf}
 use Rattle.jumps.proofs.execute_jump.Statement.{statement}
 use Rattle.jumps.proofs.execute_jump.Tie as tie
 
+compare-and-jump-requires : tie.Need-compare-and-jump-requires
+compare-and-jump-requires c κs = let h = c .before .before .before .before .before .pre in (h .0 .1, h .1 (rw (c .before .before .before .enum-told4 .given .1)))
+
+compare-and-jump-requires-2 : tie.Need-compare-and-jump-requires-2
+compare-and-jump-requires-2 c κs = let h = c .before .before .before .before .before .pre in (h .0 .1, h .1 (rw (c .before .before .before .enum-told5 .given .1)))
+
+compare-and-jump-requires-3 : tie.Need-compare-and-jump-requires-3
+compare-and-jump-requires-3 c κs = let h = c .before .before .before .before .before .pre in (h .0 .1, h .1 (rw (c .before .before .before .enum-told6 .given .1)))
+
+compare-and-jump-requires-4 : tie.Need-compare-and-jump-requires-4
+compare-and-jump-requires-4 c κs = let h = c .before .before .before .before .before .pre in (h .0 .1, h .1 (rw (c .before .before .before .enum-told7 .given .1)))
+
+compare-and-jump-requires-5 : tie.Need-compare-and-jump-requires-5
+compare-and-jump-requires-5 c κs = let h = c .before .before .before .before .before .pre in (h .0 .1, h .1 (rw (c .before .before .before .enum-told8 .given .1)))
+
+compare-and-jump-requires-6 : tie.Need-compare-and-jump-requires-6
+compare-and-jump-requires-6 c κs = let h = c .before .before .before .before .before .pre in (h .0 .1, h .1 (rw (c .before .before .before .enum-told9 .given .1)))
+
 returns : tie.Need-returns
 unfolding jumpOf
 returns c = rw (c .before .before .enum-told .given .1, c .destination .ensures)
@@ -63,17 +81,17 @@ execute-jump-spec =
     (λ c κs. search needs)
     (λ c. search needs)
     (λ c. search needs)
-    (λ c κs. search needs)
+    compare-and-jump-requires
     (λ c. search needs)
-    (λ c κs. search needs)
+    compare-and-jump-requires-2
     (λ c. search needs)
-    (λ c κs. search needs)
+    compare-and-jump-requires-3
     (λ c. search needs)
-    (λ c κs. search needs)
+    compare-and-jump-requires-4
     (λ c. search needs)
-    (λ c κs. search needs)
+    compare-and-jump-requires-5
     (λ c. search needs)
-    (λ c κs. search needs)
+    compare-and-jump-requires-6
     (λ c. search needs)
     (λ c κs. search needs)
     returns

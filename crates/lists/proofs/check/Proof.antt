@@ -6,6 +6,7 @@ use lib.ListN.{length, replicate}
 use Rattle.memory.specs.Memory.{memory}
 use Rattle.lists.specs.Walk.{Walked, listsOf}
 use Rattle.lists.proofs.Fuel.{walk-length}
+use Rattle.lists.proofs.Lists.{lists-exactly}
 use Rattle.lists.proofs.check.Statement.{statement}
 use Rattle.lists.proofs.check.Tie as tie
 
@@ -20,15 +21,20 @@ returns : tie.Need-returns
 unfolding listsOf
 returns c =
     let d = c .before .before .before .before .before in
-    rw (← d .before .before .link-of .ensures, ← d .walk .ensures, c .before .before .before .enum-told .given .1, ← c .before .before .link-of2 .ensures, ← c .walk2 .ensures)
+    let a = d .before .before .before .before .args in
+    lists-exactly (memory (a .base .0) (a .window .now)) (d .before .before .before .before .pre) (a .fcx) (a .pcxi) _ (rw (← d .before .before .link-of .ensures, ← d .walk .ensures, c .before .before .before .enum-told .given .1, ← c .before .before .link-of2 .ensures, ← c .walk2 .ensures))
 
 returns-2 : tie.Need-returns-2
 unfolding listsOf
-returns-2 c = rw (← c .before .before .before .before .link-of .ensures, ← c .before .before .walk .ensures, c .enum-told2 .given .1)
+returns-2 c =
+    let a = c .before .before .before .before .before .before .args in
+    lists-exactly (memory (a .base .0) (a .window .now)) (c .before .before .before .before .before .before .pre) (a .fcx) (a .pcxi) _ (rw (← c .before .before .before .before .link-of .ensures, ← c .before .before .walk .ensures, c .enum-told2 .given .1))
 
 returns-3 : tie.Need-returns-3
 unfolding listsOf
-returns-3 c = rw (← c .before .before .before .before .link-of .ensures, ← c .before .before .walk .ensures, c .enum-told3 .given .1)
+returns-3 c =
+    let a = c .before .before .before .before .before .before .args in
+    lists-exactly (memory (a .base .0) (a .window .now)) (c .before .before .before .before .before .before .pre) (a .fcx) (a .pcxi) _ (rw (← c .before .before .before .before .link-of .ensures, ← c .before .before .walk .ensures, c .enum-told3 .given .1))
 
 pub check-spec : {M : Type 1} → statement M
 check-spec =

@@ -1,17 +1,18 @@
 -- `inputs::checks::check_image` meets its contract. Assumes nothing.
 use borrow.Author.Needs.{needs}
 use mathlib.Core.Path.{refl}
+use Rattle.inputs.proofs.Single.{contents-exactly}
 use Rattle.inputs.proofs.checks.check_image.Statement.{statement}
 use Rattle.inputs.proofs.checks.check_image.Tie as tie
 
 returns : tie.Need-returns
-returns c = (rw (← c .before .before .check-image .ensures, c .enum-told .given .1), refl)
+returns c = (contents-exactly _ _ (rw (← c .before .before .check-image .ensures .0, c .enum-told .given .1)), refl)
 
 returns-2 : tie.Need-returns-2
-returns-2 c = (rw (← c .before .before .before .check-image .ensures, c .before .entry .given .1), refl)
+returns-2 c = (contents-exactly _ _ (rw (← c .before .before .before .check-image .ensures .0, c .before .entry .given .1)), refl)
 
 returns-3 : tie.Need-returns-3
-returns-3 c = (rw (← c .before .before .before .check-image .ensures, c .before .index .given .1), refl)
+returns-3 c = (contents-exactly _ _ (rw (← c .before .before .before .check-image .ensures .0, c .before .index .given .1)), refl)
 
 pub check-image-spec : {M : Type 1} → statement M
 check-image-spec =

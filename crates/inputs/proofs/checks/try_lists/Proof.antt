@@ -4,13 +4,13 @@ use Rattle.inputs.proofs.checks.try_lists.Statement.{statement}
 use Rattle.inputs.proofs.checks.try_lists.Tie as tie
 
 returns : tie.Need-returns
-returns c = rw (← c .before .before .check .ensures, c .enum-told .given .1)
+returns c = rw (← c .before .before .check .ensures .0, c .enum-told .given .1)
 
 returns-2 : tie.Need-returns-2
-returns-2 c = rw (← c .before .before .check .ensures, c .enum-told2 .given .1)
+returns-2 c = rw (← c .before .before .check .ensures .0, c .enum-told2 .given .1)
 
 returns-3 : tie.Need-returns-3
-returns-3 c = rw (← c .before .before .check .ensures, c .enum-told3 .given .1)
+returns-3 c = rw (← c .before .before .check .ensures .0, c .enum-told3 .given .1)
 
 pub try-lists-spec : {M : Type 1} → statement M
 try-lists-spec =

@@ -18,13 +18,13 @@ returns : tie.Need-returns
 unfolding startVerdict
 returns c =
     let e : Refused (c .before .r .given .0 .0) ≡ startVerdict (memory (c .before .before .before .before .before .before .args .base .0) (c .before .before .before .before .before .before .args .window .now)) (c .before .before .before .before .before .before .args .image .now) (c .before .before .before .before .before .before .args .pc) (c .before .before .before .before .before .before .args .fcx) (c .before .before .before .before .before .before .args .pcxi) = rw (← c .before .before .before .try-step .ensures .0 .0, c .before .r .given .1) in
-    ((e, start-exactly (memory (c .before .before .before .before .before .before .args .base .0) (c .before .before .before .before .before .before .args .window .now)) (c .before .before .before .before .before .before .args .image .now) (c .before .before .before .before .before .before .args .pc) (c .before .before .before .before .before .before .args .fcx) (c .before .before .before .before .before .before .args .pcxi) e), (refl, refl))
+    (start-exactly (memory (c .before .before .before .before .before .before .args .base .0) (c .before .before .before .before .before .before .args .window .now)) (c .before .before .before .before .before .before .args .image .now) (c .before .before .before .before .before .before .args .pc) (c .before .before .before .before .before .before .args .fcx) (c .before .before .before .before .before .before .args .pcxi) _ e, (refl, refl))
 
 returns-2 : tie.Need-returns-2
 unfolding startVerdict
 returns-2 c =
     let e : c .try-lists .result ≡ startVerdict (memory (c .before .before .before .before .before .before .args .base .0) (c .before .before .before .before .before .before .args .window .now)) (c .before .before .before .before .before .before .args .image .now) (c .before .before .before .before .before .before .args .pc) (c .before .before .before .before .before .before .args .fcx) (c .before .before .before .before .before .before .args .pcxi) = rw (← c .before .before .before .try-step .ensures .0 .0, c .before .enum-told .given .1) (c .try-lists .ensures) in
-    ((e, start-exactly (memory (c .before .before .before .before .before .before .args .base .0) (c .before .before .before .before .before .before .args .window .now)) (c .before .before .before .before .before .before .args .image .now) (c .before .before .before .before .before .before .args .pc) (c .before .before .before .before .before .before .args .fcx) (c .before .before .before .before .before .before .args .pcxi) e), (refl, refl))
+    (start-exactly (memory (c .before .before .before .before .before .before .args .base .0) (c .before .before .before .before .before .before .args .window .now)) (c .before .before .before .before .before .before .args .image .now) (c .before .before .before .before .before .before .args .pc) (c .before .before .before .before .before .before .args .fcx) (c .before .before .before .before .before .before .args .pcxi) _ e, (refl, refl))
 
 pub try-start-spec : {M : Type 1} → statement M
 try-start-spec =
