@@ -1,4 +1,4 @@
--- A return (002, 4.3): the area at PCXI's link is loaded, and FCX is written over its first word.
+-- A return (002, 4.6.2): the area at PCXI's link is loaded, and FCX is written over its first word.
 use Prim.Native.Nat.{ℕ}
 use mathlib.Core.List.{List}
 use lib.Seq.{sets}

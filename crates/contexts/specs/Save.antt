@@ -1,4 +1,4 @@
--- A save (002, 4.3): the area at FCX, its context, and the heads of the lists.
+-- A save (002, 4.3 and 4.6.1): the area at FCX, its context, and the heads of the lists.
 use Prim.Native.Nat.{ℕ}
 use mathlib.Core.Bool.{cond}
 use mathlib.Core.List.{List}
@@ -11,6 +11,7 @@ use Rattle.areas.specs.Place.{placed}
 use Rattle.areas.specs.declared.link.Place.{Place}
 use Rattle.areas.specs.declared.link.Place.the-variants as place
 use Rattle.fields.specs.Pcxi.{pcxiOf}
+use Rattle.registers.specs.Core.{PCXI, FCX, LCX, ICR}
 use Rattle.events.specs.declared.event.Stop.the-variants.{NoArea, Outside}
 use Rattle.contexts.specs.Context.{ulOf}
 use Rattle.contexts.specs.declared.context.Half.{Half}
@@ -41,9 +42,9 @@ taken core bytes = record { core = core; bytes = bytes }
 -- the area's first word is read as the next FCX (low 20 bits, the others 0), the sixteen words are written, PCXI is set: PCPN = CCPN, PIE = IE, UL, link = the taken area
 unfoldable pub takeOf : Half → List ℕ → ℕ → List ℕ → List ℕ → Taken
 takeOf half words at core bytes =
-    let fcx = getD core 3 0 in
-    let icr = getD core 5 0 in
-    taken (set (set core 2 (pcxiOf icr (ulOf half) fcx)) 3 (linkOf (wordAt bytes at) .0)) (putWords bytes at words 16)
+    let fcx = getD core FCX 0 in
+    let icr = getD core ICR 0 in
+    taken (set (set core PCXI (pcxiOf icr (ulOf half) fcx)) FCX (linkOf (wordAt bytes at) .0)) (putWords bytes at words 16)
 
 -- what a save comes to, and the core registers and the memory after it
 pub record Saving : Type 0 where
@@ -65,8 +66,8 @@ depletedBy half words at core m (room.At second) = taking Depleted (m .base) (ta
 -- a save into the area at byte `at`
 unfoldable pub saveAtOf : Half → List ℕ → ℕ → List ℕ → Memory → Saving
 saveAtOf half words at core m =
-    let fcx = getD core 3 0 in
-    let lcx = getD core 4 0 in
+    let fcx = getD core FCX 0 in
+    let lcx = getD core LCX 0 in
     cond (eqb (linkOf fcx .0) (linkOf lcx .0))
     (depletedBy half words at core m (roomOf m (wordAt (m .bytes) at)))
     (taking Done (m .base) (takeOf half words at core (m .bytes)))
@@ -77,4 +78,4 @@ saveBy half words core m (room.At at) = saveAtOf half words at core m
 
 -- a save of sixteen words into the area at FCX. A stop leaves all as it was
 unfoldable pub saveOf : Half → List ℕ → List ℕ → Memory → Saving
-saveOf half words core m = let fcx = getD core 3 0 in saveBy half words core m (roomOf m fcx)
+saveOf half words core m = let fcx = getD core FCX 0 in saveBy half words core m (roomOf m fcx)

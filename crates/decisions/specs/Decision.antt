@@ -92,7 +92,7 @@ returningBy then returned.Done q m = made (Made event.Instruction) (then q) m
 abbrev pub returningOf : Half → (Registers → Registers) → Registers → Memory → MadeOf
 returningOf half then r m = let v = returnOf half r m in returningBy then (v .returned) (v .registers) (v .memory)
 
--- a decision performed. This alone changes memory and the heads of the lists
+-- a decision performed. This alone changes memory. The heads of the lists are changed by a save and a return; a Keep may have them set by an MTCR (Heads.antt)
 abbrev pub performedOf : Decision → Registers → Memory → MadeOf
 performedOf (Keep q) r m = made (Made event.Instruction) q m
 performedOf (Write op at v q) r m = made (Made event.Instruction) q (memory (m .base) (storedOf op (m .bytes) at v))

@@ -4,6 +4,7 @@ use mathlib.Core.List.{List}
 use lib.Dec.{eqb}
 use mathlib.Core.Bool.{Bool, false, cond, _&&_, _||_}
 use Rattle.fields.specs.Psw.{isSupervisor}
+use Rattle.registers.specs.Core.{PCXI, FCX}
 use Rattle.registers.specs.Registers.{pc, psw, icr}
 use Rattle.registers.specs.declared.Registers.{Registers}
 use Rattle.operations.specs.declared.Operation.{Operation}
@@ -26,7 +27,7 @@ use Rattle.system.specs.declared.core_registers.Named.the-variants.{Pc, Registe
 
 abbrev pub isHead : Named → Bool
 isHead Pc = false
-isHead (Register k) = eqb k 2 || eqb k 3
+isHead (Register k) = eqb k PCXI || eqb k FCX
 isHead Nothing = false
 
 abbrev pub systemWrites : system.System → Instruction → Registers → Bool

@@ -1,5 +1,6 @@
 -- The traps, class/TIN, in document 01's order. The names are those of 002, Table 7; document 01 has its own traps in class 4.
 use Prim.Native.Nat.{ℕ, _%_, _^_}
+use mathlib.Core.List.{List, [], _∷_}
 use Rattle.events.specs.declared.trap.Trap.{Trap}
 
 abbrev pub trap : ℕ → ℕ → Trap
@@ -72,3 +73,7 @@ SOVF = trap 5 2
 -- SYSCALL: the immediate's low 8 bits
 abbrev pub SYS : ℕ → Trap
 SYS imm = trap 6 (imm % 2 ^ 8)
+
+-- all but SYS, in that order
+abbrev pub traps : List Trap
+traps = PRIV ∷ MPR ∷ MPW ∷ MPX ∷ MPP ∷ GRWP ∷ ALN ∷ FCD ∷ CDO ∷ CDU ∷ CSU ∷ CTYP ∷ NEST ∷ CODE ∷ DATA ∷ OVF ∷ SOVF ∷ []

@@ -1,7 +1,7 @@
 // The traps by their names in 002, Table 7, with class and trap identification number (TIN). Those of class 4 are document 01's.
 
 ghost use mathlib.Core.Path.{_≡_};
-ghost use Rattle.events.specs.Traps.{SYS};
+ghost use Rattle.events.specs.Traps.{traps, SYS};
 
 pub struct Trap {
     pub class: u8,
@@ -42,6 +42,31 @@ pub const DATA: Trap = Trap { class: 4, tin: 2 };
 pub const OVF: Trap = Trap { class: 5, tin: 1 };
 
 pub const SOVF: Trap = Trap { class: 5, tin: 2 };
+
+// The traps above. A constant has no contract of its own: this one holds each to its definition.
+pub fn named() -> [Trap; 17]
+    ensures { λ r. ⌜ r ≡ traps ⌝ }
+{
+    [
+        PRIV,
+        MPR,
+        MPW,
+        MPX,
+        MPP,
+        GRWP,
+        ALN,
+        FCD,
+        CDO,
+        CDU,
+        CSU,
+        CTYP,
+        NEST,
+        CODE,
+        DATA,
+        OVF,
+        SOVF,
+    ]
+}
 
 // The system call with a number: its low 8 bits are the TIN.
 pub fn system_call(number: u32) -> Trap

@@ -6,6 +6,7 @@ use lib.ListN.{getD}
 use lib.Dec.{leb}
 use Rattle.fields.specs.Psw.{PSW·PRS, isUser0}
 use Rattle.fields.specs.Syscon.{SYSCON·PROTEN}
+use Rattle.registers.specs.Core.{PSW, SYSCON}
 use Rattle.events.specs.Traps.{MPR, MPW, MPX, MPP}
 use Rattle.events.specs.declared.trap.Trap.{Trap}
 use Rattle.protection.specs.Range.{permitted}
@@ -28,11 +29,11 @@ peripheral address = leb 0xE000_0000 address
 -- segments E and F skip the ranges, and are not for User-0. The ranges are those of set PRS, only when protection is on, and only the first byte counts
 unfoldable pub checkOf : List ℕ → List Range → Right → ℕ → Check
 checkOf core rs right address =
-    let psw = getD core 1 0 in
-    let syscon = getD core 9 0 in
+    let psw = getD core PSW 0 in
+    let syscon = getD core SYSCON 0 in
     cond (peripheral address) (cond (isUser0 psw) (Fails MPP) Passes)
     (cond (not (SYSCON·PROTEN syscon) || permitted rs (PSW·PRS psw) right address) Passes (Fails (deniedOf right)))
 
 -- the ranges are asked
 abbrev pub asks : List ℕ → ℕ → Bool
-asks core address = not (peripheral address) && SYSCON·PROTEN (getD core 9 0)
+asks core address = not (peripheral address) && SYSCON·PROTEN (getD core SYSCON 0)

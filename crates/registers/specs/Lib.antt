@@ -1,2 +1,3 @@
 -- The registers.
+pub mod Core
 pub mod Registers

@@ -5,6 +5,7 @@ use mathlib.Core.List.{List}
 use lib.ListN.{getD, set}
 use lib.Dec.{eqb}
 use Rattle.fields.specs.Psw.{PSW·GW}
+use Rattle.registers.specs.Core.{PC, PSW, PCXI, FCX, LCX, ICR, ISP, BIV, BTV, SYSCON}
 use Rattle.registers.specs.declared.Registers.{Registers}
 
 abbrev pub registers : List ℕ → List ℕ → List ℕ → Registers
@@ -18,39 +19,39 @@ D r n = getD (r .d) n 0
 abbrev pub A : Registers → ℕ → ℕ
 A r n = getD (r .a) n 0
 
--- the core registers, from 0
+-- the core register at a place
 abbrev pub core : Registers → ℕ → ℕ
 core r n = getD (r .core) n 0
 
 abbrev pub pc : Registers → ℕ
-pc r = core r 0
+pc r = core r PC
 
 abbrev pub psw : Registers → ℕ
-psw r = core r 1
+psw r = core r PSW
 
 abbrev pub pcxi : Registers → ℕ
-pcxi r = core r 2
+pcxi r = core r PCXI
 
 abbrev pub fcx : Registers → ℕ
-fcx r = core r 3
+fcx r = core r FCX
 
 abbrev pub lcx : Registers → ℕ
-lcx r = core r 4
+lcx r = core r LCX
 
 abbrev pub icr : Registers → ℕ
-icr r = core r 5
+icr r = core r ICR
 
 abbrev pub isp : Registers → ℕ
-isp r = core r 6
+isp r = core r ISP
 
 abbrev pub biv : Registers → ℕ
-biv r = core r 7
+biv r = core r BIV
 
 abbrev pub btv : Registers → ℕ
-btv r = core r 8
+btv r = core r BTV
 
 abbrev pub syscon : Registers → ℕ
-syscon r = core r 9
+syscon r = core r SYSCON
 
 -- one register written
 abbrev pub withD : ℕ → ℕ → Registers → Registers
@@ -63,19 +64,19 @@ abbrev pub withCore : ℕ → ℕ → Registers → Registers
 withCore n v r = registers (r .d) (r .a) (set (r .core) n v)
 
 abbrev pub withPc : ℕ → Registers → Registers
-withPc v r = withCore 0 v r
+withPc v r = withCore PC v r
 
 abbrev pub withPsw : ℕ → Registers → Registers
-withPsw v r = withCore 1 v r
+withPsw v r = withCore PSW v r
 
 abbrev pub withPcxi : ℕ → Registers → Registers
-withPcxi v r = withCore 2 v r
+withPcxi v r = withCore PCXI v r
 
 abbrev pub withFcx : ℕ → Registers → Registers
-withFcx v r = withCore 3 v r
+withFcx v r = withCore FCX v r
 
 abbrev pub withIcr : ℕ → Registers → Registers
-withIcr v r = withCore 5 v r
+withIcr v r = withCore ICR v r
 
 -- the second operand: register b of D or A, or the immediate where b is 16
 unfoldable pub secondOf : List ℕ → ℕ → ℕ → ℕ

@@ -2,6 +2,7 @@
 
 ghost use mathlib.Core.Path.{_≡_};
 ghost use Prim.Native.Nat.{_≤_};
+ghost use Rattle.registers.specs.Core.{places};
 ghost use Rattle.registers.specs.Registers.{secondOf, plusOf, minusOf, even, isGlobal, guards};
 
 // D0 to D15, A0 to A15, and the ten core registers under the indices below.
@@ -30,6 +31,13 @@ pub const BIV: usize = 7;
 pub const BTV: usize = 8;
 
 pub const SYSCON: usize = 9;
+
+// The places above. A constant has no contract of its own: this one holds each to its definition.
+pub fn core_places() -> [usize; 10]
+    ensures { λ r. ⌜ r ≡ places ⌝ }
+{
+    [PC, PSW, PCXI, FCX, LCX, ICR, ISP, BIV, BTV, SYSCON]
+}
 
 // The second operand: register b, or the immediate where b is 16.
 pub fn second(xs: &[u32; 16], b: usize, imm: u32) -> u32

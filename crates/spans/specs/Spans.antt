@@ -4,6 +4,7 @@ use mathlib.Core.Path.{_≡_}
 use mathlib.Core.List.{List}
 use lib.ListN.{length, getD}
 use Rattle.memory.specs.Memory.{Memory}
+use Rattle.registers.specs.Core.{PC}
 use Rattle.registers.specs.Registers.{pc}
 use Rattle.registers.specs.declared.Registers.{Registers}
 use Rattle.protection.specs.Access.{checkOf}
@@ -35,5 +36,5 @@ pub record SpanHolds (img core : List ℕ) (rs : List Range) (s : Span) : Type 0
 
 -- what lies at PC: a span that begins there, or the trap of the instruction's fetch
 abbrev pub Leads : List ℕ → List ℕ → List Range → Ahead → Type 0
-Leads img core rs (Records s) = (s .from ≡ getD core 0 0) × (0 < s .records) × SpanHolds img core rs s
+Leads img core rs (Records s) = (s .from ≡ getD core PC 0) × (0 < s .records) × SpanHolds img core rs s
 Leads img core rs (Traps t) = (r : Registers) (m : Memory) → r .core ≡ core → instructionOf img r rs m ≡ trapOf t (pc r) r m

@@ -4,10 +4,11 @@ use mathlib.Core.Bool.{cond}
 use mathlib.Core.List.{List, [], _∷_}
 use lib.ListN.{getD, set}
 use lib.Dec.{eqb}
+use Rattle.registers.specs.Core.{PC, PSW, PCXI, FCX, LCX, ICR, ISP, BIV, BTV, SYSCON}
 use Rattle.system.specs.declared.core_registers.Named.{Named}
 use Rattle.system.specs.declared.core_registers.Named.the-variants.{Pc, Register, Nothing}
 
--- offset, and what it names; a core register by its index (registers/specs)
+-- offset, and what it names; a core register by its place (registers/specs/Core.antt)
 pub record Row : Type 0 where
   pub offset : ℕ
   pub named : Named
@@ -17,16 +18,16 @@ at o n = record { offset = o; named = n }
 
 abbrev pub offsets : List Row
 offsets =
-    at 0xFE00 (Register 2)  -- PCXI
-    ∷ at 0xFE04 (Register 1)  -- PSW
+    at 0xFE00 (Register PCXI)
+    ∷ at 0xFE04 (Register PSW)
     ∷ at 0xFE08 Pc
-    ∷ at 0xFE14 (Register 9)  -- SYSCON
-    ∷ at 0xFE20 (Register 7)  -- BIV
-    ∷ at 0xFE24 (Register 8)  -- BTV
-    ∷ at 0xFE28 (Register 6)  -- ISP
-    ∷ at 0xFE2C (Register 5)  -- ICR
-    ∷ at 0xFE38 (Register 3)  -- FCX
-    ∷ at 0xFE3C (Register 4)  -- LCX
+    ∷ at 0xFE14 (Register SYSCON)
+    ∷ at 0xFE20 (Register BIV)
+    ∷ at 0xFE24 (Register BTV)
+    ∷ at 0xFE28 (Register ISP)
+    ∷ at 0xFE2C (Register ICR)
+    ∷ at 0xFE38 (Register FCX)
+    ∷ at 0xFE3C (Register LCX)
     ∷ []
 
 abbrev pub lookup : List Row → ℕ → Named
@@ -43,7 +44,7 @@ Known (Register k) = k < 10
 Known Nothing = Unit {0}
 
 abbrev pub readBy : List ℕ → Named → ℕ
-readBy core Pc = getD core 0 0
+readBy core Pc = getD core PC 0
 readBy core (Register k) = getD core k 0
 readBy core Nothing = 0
 
