@@ -72,7 +72,7 @@ abbrev pub returnDid : (Registers → Registers) → Returned → Registers → 
 returnDid then returned.Outside r m = did (how.Stopped stop.Outside) r m
 returnDid then returned.Done r m = did how.Done (then r) m
 
--- an act performed. This alone changes memory and the heads
+-- an act performed. This alone changes memory. The heads are changed by a save and a return, and by an MTCR to FCX or PCXI: an act that ends with them set
 abbrev pub performOf : Act → Registers → Memory → Did
 performOf (Ends e) r m = did (e .how) (e .registers) m
 performOf (Write op at v after) r m = did how.Done after (memory (m .base) (storedOf op (m .bytes) at v))

@@ -10,7 +10,7 @@ use Rattle.inputs.specs.declared.verdict.Verdict.the-variants as verdict
 use Rattle.machine.specs.declared.answer.Outcome.{Outcome}
 use Rattle.machine.specs.declared.answer.Outcome.the-variants.{Made, Stopped, Refused}
 use Rattle.permits.specs.declared.Permit.{Permit}
-use Rattle.permits.specs.declared.Permit.the-variants.{Unasked, By}
+use Rattle.permits.specs.declared.Permit.the-variants.{Unnamed, By}
 
 -- bits 7:0 the kind, 15:8 the number, 23:16 the TIN, 31:24 the permitting ranges, 63:32 the high word
 unfoldable pub packedOf : ℕ → ℕ → ℕ → ℕ → ℕ → ℕ
@@ -18,7 +18,7 @@ packedOf kind number tin permits high = kind + number * 2 ^ 8 + tin * 2 ^ 16 + p
 
 -- 0 where no range is named, else 4 and the range's number among the four of set PRS
 abbrev pub permitNumber : Permit → ℕ
-permitNumber Unasked = 0
+permitNumber Unnamed = 0
 permitNumber (By k) = 4 + k % 4
 
 -- bits 26:24 for the fetch, 29:27 for the data access

@@ -27,7 +27,7 @@ fn permit(p: Permit) -> u8
     ensures { λ r. ⌜ (r ≡ permitNumber p) × (r < 8) ⌝ }
 {
     match p {
-        Permit::Unasked => 0,
+        Permit::Unnamed => 0,
         Permit::By(k) => (4 + k % 4) as u8,
     }
 }

@@ -1,4 +1,4 @@
--- Links and addresses (002, 3.4 and Figure 30).
+-- Links and addresses (002, 3.4, Figure 15, and 4.1).
 use Prim.Native.Nat.{ℕ, _+_, _*_, _/_, _%_, _^_}
 use Rattle.areas.specs.declared.link.Link.{Link}
 use Rattle.areas.specs.declared.link.Address.{Address}

@@ -112,7 +112,7 @@ pub fn bisr(
         }
         Saved::Depleted => {
             set_priority(d, a, core, imm, next);
-            How::Depleted
+            How::Depleted // the FCD entry finds IE and CCPN as they are set here
         }
     }
 }

@@ -80,14 +80,14 @@ entering e then r saved.Depleted core m = fcdOf (then (withCores core r)) m
 abbrev pub entryOf : Event → (Registers → Registers) → Registers → Memory → MadeOf
 entryOf e then r m = let v = saveOf Upper (upperOf r) (r .core) m in entering e then r (v .saved) (v .core) (v .memory)
 
--- the event of an entry's cause, and the registers that it sets: a trap's with the return address; an interrupt's is PC
+-- the event of an entry's cause, and the registers that it sets
 abbrev pub causeEvent : Cause → Event
-causeEvent (cause.Trap t) = event.Trap t
+causeEvent (cause.Trap t back) = event.Trap t
 causeEvent (cause.Interrupt source level) = event.Interrupt source
 
-abbrev pub causeEntry : Cause → ℕ → Registers → Registers
-causeEntry (cause.Trap t) back = trapEntry t back
-causeEntry (cause.Interrupt source level) back = interruptEntry level
+abbrev pub causeEntry : Cause → Registers → Registers
+causeEntry (cause.Trap t back) = trapEntry t back
+causeEntry (cause.Interrupt source level) = interruptEntry level
 
 unfoldable pub trapOf : Trap → ℕ → Registers → Memory → MadeOf
 trapOf t back r m = entryOf (event.Trap t) (trapEntry t back) r m

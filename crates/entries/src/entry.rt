@@ -44,8 +44,9 @@ pub fn enter_fcd(
 
 // What an entry is for.
 enum Cause {
-    Trap(Trap),
-    // the source and its priority number
+    // with its return address
+    Trap(Trap, u32),
+    // the source and its priority number; the return address is PC
     Interrupt(u8, u8),
 }
 
@@ -53,21 +54,21 @@ fn event_of(cause: Cause) -> Event
     ensures { λ r. ⌜ r ≡ causeEvent cause ⌝ }
 {
     match cause {
-        Cause::Trap(t) => Event::Trap(t),
+        Cause::Trap(t, _) => Event::Trap(t),
         Cause::Interrupt(source, _) => Event::Interrupt(source),
     }
 }
 
-fn set_entry(d: &mut [u32; 16], a: &mut [u32; 16], core: &mut [u32; 10], cause: Cause, back: u32)
-    ensures { λ _. ⌜ registers (now (d .exit)) (now (a .exit)) (now (core .exit)) ≡ causeEntry cause back (registers (now (d .entry)) (now (a .entry)) (now (core .entry))) ⌝ }
+fn set_entry(d: &mut [u32; 16], a: &mut [u32; 16], core: &mut [u32; 10], cause: Cause)
+    ensures { λ _. ⌜ registers (now (d .exit)) (now (a .exit)) (now (core .exit)) ≡ causeEntry cause (registers (now (d .entry)) (now (a .entry)) (now (core .entry))) ⌝ }
 {
     match cause {
-        Cause::Trap(t) => enter_trap(d, a, core, t, back),
+        Cause::Trap(t, back) => enter_trap(d, a, core, t, back),
         Cause::Interrupt(_, level) => enter_interrupt(d, a, core, level),
     }
 }
 
-// An entry with its return address. One function for both causes: the run's loop calls it, and holds none of its work.
+// An entry. One function for both causes: the run's loop calls it, and holds none of its work.
 fn enter(
     base: u32,
     window: &mut [u8],
@@ -75,18 +76,17 @@ fn enter(
     a: &mut [u32; 16],
     core: &mut [u32; 10],
     cause: Cause,
-    back: u32,
 ) -> Ending
-    ensures { λ r. ⌜ made r (registers (now (d .exit)) (now (a .exit)) (now (core .exit))) (memory base (now (window .exit))) ≡ entryOf (causeEvent cause) (causeEntry cause back) (registers (now (d .entry)) (now (a .entry)) (now (core .entry))) (memory base (now (window .entry))) ⌝ }
+    ensures { λ r. ⌜ made r (registers (now (d .exit)) (now (a .exit)) (now (core .exit))) (memory base (now (window .exit))) ≡ entryOf (causeEvent cause) (causeEntry cause) (registers (now (d .entry)) (now (a .entry)) (now (core .entry))) (memory base (now (window .entry))) ⌝ }
 {
     match save_upper(base, window, d, a, core) {
         Saved::Stops(s) => Ending::Stopped(s),
         Saved::Done => {
-            set_entry(d, a, core, cause, back);
+            set_entry(d, a, core, cause);
             Ending::Made(event_of(cause))
         }
         Saved::Depleted => {
-            set_entry(d, a, core, cause, back);
+            set_entry(d, a, core, cause);
             enter_fcd(base, window, d, a, core)
         }
     }
@@ -104,7 +104,7 @@ pub fn trap(
 ) -> Ending
     ensures { λ r. ⌜ made r (registers (now (d .exit)) (now (a .exit)) (now (core .exit))) (memory base (now (window .exit))) ≡ trapOf t back (registers (now (d .entry)) (now (a .entry)) (now (core .entry))) (memory base (now (window .entry))) ⌝ }
 {
-    enter(base, window, d, a, core, Cause::Trap(t), back)
+    enter(base, window, d, a, core, Cause::Trap(t, back))
 }
 
 // An interrupt from a source, with its priority number.
@@ -119,14 +119,5 @@ pub fn interrupt(
 ) -> Ending
     ensures { λ r. ⌜ made r (registers (now (d .exit)) (now (a .exit)) (now (core .exit))) (memory base (now (window .exit))) ≡ interruptOf source level (registers (now (d .entry)) (now (a .entry)) (now (core .entry))) (memory base (now (window .entry))) ⌝ }
 {
-    let pc = core[PC];
-    enter(
-        base,
-        window,
-        d,
-        a,
-        core,
-        Cause::Interrupt(source, level),
-        pc,
-    )
+    enter(base, window, d, a, core, Cause::Interrupt(source, level))
 }

@@ -1,4 +1,4 @@
--- Call depth counting (002, 7.1.1.5 and 7.1.1.6): PSW.CDE, bit 7, and PSW.CDC, bits 6:0.
+-- Call depth counting (002, 7.1.1.5, 7.1.1.6 and 8.9.5): PSW.CDE, bit 7, and PSW.CDC, bits 6:0.
 use Prim.Native.Nat.{ℕ, zero, suc, _+_, _*_, _/_, _%_, _^_}
 use lib.Dec.{eqb, ltb}
 use mathlib.Core.Bool.{Bool, cond, _&&_}

@@ -14,9 +14,6 @@ PSW·V psw = isSet 30 psw
 abbrev pub PSW·SV : ℕ → Bool
 PSW·SV psw = isSet 29 psw
 
-abbrev pub PSW·AV : ℕ → Bool
-PSW·AV psw = isSet 28 psw
-
 abbrev pub PSW·SAV : ℕ → Bool
 PSW·SAV psw = isSet 27 psw
 

@@ -1,4 +1,4 @@
--- A service request control register, one for each interrupt source (002, 5.2 and Figure 39): SR 10, SRE 9, SRPN 7:0. The other bits have no effect.
+-- A service request control register, one for each interrupt source (002, 5.1, Figure 39): SR 10, SRE 9, SRPN 7:0. The other bits have no effect.
 use Prim.Native.Nat.{ℕ, _+_, _*_, _/_, _%_, _^_}
 use mathlib.Core.Bool.{Bool, _&&_}
 use Rattle.fields.specs.Field.{isSet}

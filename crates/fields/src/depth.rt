@@ -1,4 +1,4 @@
-// Call depth counting: PSW.CDE and PSW.CDC (002, 7.1.1.5 and 7.1.1.6).
+// Call depth counting: PSW.CDE and PSW.CDC (002, 7.1.1.5, 7.1.1.6 and 8.9.5).
 
 ghost use mathlib.Core.Path.{_≡_};
 ghost use Prim.Native.Nat.{_+_, _<_, _^_};

@@ -77,10 +77,7 @@ pub fn with_flags(psw: u32, c: bool, v: bool, av: bool) -> u32
 pub fn with_overflow(psw: u32, v: bool, av: bool) -> u32
     ensures { λ r. ⌜ r ≡ overflowedOf psw v av ⌝ }
 {
-    psw / 0x8000_0000 * 0x8000_0000
-        + sticky(psw / 0x2000_0000 % 2, v) * 0x2000_0000
-        + sticky(psw / 0x0800_0000 % 2, av) * 0x0800_0000
-        + psw % 0x0800_0000
+    with_flags(psw, carry(psw), v, av)
 }
 
 // RSTV: V, SV, AV and SAV cleared.

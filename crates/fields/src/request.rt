@@ -1,4 +1,4 @@
-// A service request control register (002, 5.2 and Figure 39).
+// A service request control register (002, 5.1, Figure 39).
 
 ghost use mathlib.Core.Path.{_≡_};
 ghost use Rattle.fields.specs.Request.{SRC·SRPN, requests, clearedOf};

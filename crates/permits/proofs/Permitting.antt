@@ -32,15 +32,15 @@ use Rattle.inputs.specs.declared.verdict.Refusal.{Refusal}
 use Rattle.inputs.specs.declared.verdict.Verdict.the-variants.{Accepted, Refused}
 use Rattle.permits.specs.Permits.{Access, none, access, dataBy, dataIn, dataAt, fetchAsked, dataAsked, fetchOfStep, dataOfStep, PermitSays}
 use Rattle.permits.specs.declared.Permit.{Permit}
-use Rattle.permits.specs.declared.Permit.the-variants.{Unasked, By}
+use Rattle.permits.specs.declared.Permit.the-variants.{Unnamed, By}
 
 module _ (r : Registers) (rs : List Range) where
   -- ---- one access
   module _ (right : Right) (address : ℕ) where
-    pub of-peripherals : 0xE000_0000 ≤ address → PermitSays r rs (access right address) Unasked
+    pub of-peripherals : 0xE000_0000 ≤ address → PermitSays r rs (access right address) Unnamed
     of-peripherals h = rw (le-leb _ _ h) refl
 
-    pub not-asked : SYSCON·PROTEN (getD (r .core) 9 0) ≡ false → PermitSays r rs (access right address) Unasked
+    pub not-asked : SYSCON·PROTEN (getD (r .core) 9 0) ≡ false → PermitSays r rs (access right address) Unnamed
     not-asked p = rw p (by (peripheral address))
       where
         by : (b : Bool) → ((not b && false) && permitted rs (PSW·PRS (getD (r .core) 1 0)) right address) ≡ false
@@ -48,14 +48,14 @@ module _ (r : Registers) (rs : List Range) where
         by false = refl
 
     module _ (h : address < 0xE000_0000) (p : SYSCON·PROTEN (getD (r .core) 9 0) ≡ true) where
-      pub by-none : permitted rs (PSW·PRS (getD (r .core) 1 0)) right address ≡ false → PermitSays r rs (access right address) Unasked
+      pub by-none : permitted rs (PSW·PRS (getD (r .core) 1 0)) right address ≡ false → PermitSays r rs (access right address) Unnamed
       by-none d = rw (lt-leb _ _ h, p, d) refl
 
       pub by-one : (k : ℕ) → PermittedBy rs (PSW·PRS (getD (r .core) 1 0)) right address k → PermitSays r rs (access right address) (By k)
       by-one k b = (rw (lt-leb _ _ h, p, permitted-by rs right address _ k b) refl, b)
 
   -- with protection off none is named
-  pub off : (a : Access) → SYSCON·PROTEN (getD (r .core) 9 0) ≡ false → PermitSays r rs a Unasked
+  pub off : (a : Access) → SYSCON·PROTEN (getD (r .core) 9 0) ≡ false → PermitSays r rs a Unnamed
   off none p = refl
   off (access right address) p = not-asked right address p
 
@@ -65,8 +65,8 @@ module _ (r : Registers) (rs : List Range) where
     unfolding instructionAt
     data-by x e p h = rw (← e, ← is) h
 
-    pub data-none : data-access.Nothing ≡ accessOf (operationOf (getD img at 0)) → PermitSays r rs (dataIn (instructionAt img at pc) r) Unasked
-    data-none e = data-by data-access.Nothing e Unasked refl
+    pub data-none : data-access.Nothing ≡ accessOf (operationOf (getD img at 0)) → PermitSays r rs (dataIn (instructionAt img at pc) r) Unnamed
+    data-none e = data-by data-access.Nothing e Unnamed refl
 
     pub data-read : (p : Permit) → data-access.Read ≡ accessOf (operationOf (getD img at 0)) → PermitSays r rs (access right.Read address) p → PermitSays r rs (dataIn (instructionAt img at pc) r) p
     data-read p e h = data-by data-access.Read e p h
@@ -76,10 +76,10 @@ module _ (r : Registers) (rs : List Range) where
 
   module _ (img : List ℕ) where
     -- ---- of the instruction at PC
-    pub not-fetched : (t : Trap) → Fails t ≡ checkOf (r .core) rs right.Execute (pc r) → PermitSays r rs (dataAt img r rs) Unasked
+    pub not-fetched : (t : Trap) → Fails t ≡ checkOf (r .core) rs right.Execute (pc r) → PermitSays r rs (dataAt img r rs) Unnamed
     not-fetched t e = rw (← e) refl
 
-    pub no-record : Passes ≡ checkOf (r .core) rs right.Execute (pc r) → Nothing ≡ fetchOf img (pc r) → PermitSays r rs (dataAt img r rs) Unasked
+    pub no-record : Passes ≡ checkOf (r .core) rs right.Execute (pc r) → Nothing ≡ fetchOf img (pc r) → PermitSays r rs (dataAt img r rs) Unnamed
     no-record e f = rw (← e, ← f) refl
 
     pub of-record : (i : Instruction) (p : Permit) → Passes ≡ checkOf (r .core) rs right.Execute (pc r) → Found i ≡ fetchOf img (pc r) → PermitSays r rs (dataIn i r) p → PermitSays r rs (dataAt img r rs) p
@@ -87,10 +87,10 @@ module _ (r : Registers) (rs : List Range) where
 
     -- ---- where an interrupt is taken, and where none is
     module _ (xs : List ℕ) where
-      pub taken-fetch : takes (icr r) (bestOf xs .level) ≡ true → PermitSays r rs (fetchAsked r xs) Unasked
+      pub taken-fetch : takes (icr r) (bestOf xs .level) ≡ true → PermitSays r rs (fetchAsked r xs) Unnamed
       taken-fetch e = rw e refl
 
-      pub taken-data : takes (icr r) (bestOf xs .level) ≡ true → PermitSays r rs (dataAsked img r xs rs) Unasked
+      pub taken-data : takes (icr r) (bestOf xs .level) ≡ true → PermitSays r rs (dataAsked img r xs rs) Unnamed
       taken-data e = rw e refl
 
       pub quiet-fetch : (p : Permit) → takes (icr r) (bestOf xs .level) ≡ false → PermitSays r rs (access right.Execute (pc r)) p → PermitSays r rs (fetchAsked r xs) p
@@ -109,8 +109,8 @@ module _ (r : Registers) (rs : List Range) where
           accepted-data p h = rw e h
 
         module _ (x : Refusal) (e : stepVerdict m img (pc r) ≡ Refused x) where
-          pub no-fetch : PermitSays r rs (fetchOfStep img r xs m) Unasked
+          pub no-fetch : PermitSays r rs (fetchOfStep img r xs m) Unnamed
           no-fetch = rw e refl
 
-          pub no-data : PermitSays r rs (dataOfStep img r xs rs m) Unasked
+          pub no-data : PermitSays r rs (dataOfStep img r xs rs m) Unnamed
           no-data = rw e refl

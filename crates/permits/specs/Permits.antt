@@ -27,7 +27,7 @@ use Rattle.inputs.specs.Checks.{stepVerdict}
 use Rattle.inputs.specs.declared.verdict.Verdict.{Verdict}
 use Rattle.inputs.specs.declared.verdict.Verdict.the-variants as verdict
 use Rattle.permits.specs.declared.Permit.{Permit}
-use Rattle.permits.specs.declared.Permit.the-variants.{Unasked, By}
+use Rattle.permits.specs.declared.Permit.the-variants.{Unnamed, By}
 
 -- an access that a step makes: a right and an address
 pub data Access : Type 0 where
@@ -85,4 +85,4 @@ By·set r rs (access right address) k = PermittedBy rs (PSW·PRS (psw r)) right 
 -- the answer: a range of set PRS that permits the access, where the ranges are asked and one does; otherwise none is named
 abbrev pub PermitSays : Registers → List Range → Access → Permit → Type 0
 PermitSays r rs a (By k) = (isPermitted r rs a ≡ true) × By·set r rs a k
-PermitSays r rs a Unasked = isPermitted r rs a ≡ false
+PermitSays r rs a Unnamed = isPermitted r rs a ≡ false

@@ -1,6 +1,7 @@
 // The ranges that permit a step's fetch and its data access.
 
 use image::fetch::rest_at;
+use image::fetch::wide;
 use interrupts::best_source;
 use interrupts::taken;
 use memory::word_at;
@@ -26,9 +27,9 @@ ghost use Rattle.image.specs.Records.{ImageHolds};
 ghost use Rattle.image.specs.Fetch.{instructionAt, FieldsHold};
 ghost use Rattle.permits.specs.Permits.{access, dataIn, dataAt, fetchAsked, dataAsked, PermitSays};
 
-// The range that permitted an access, by its number, where protection asked and one did.
+// The range that permitted an access, by its number. None is named where none was asked, or none permits.
 pub enum Permit {
-    Unasked,
+    Unnamed,
     By(usize),
 }
 
@@ -42,10 +43,10 @@ fn permit_for(core: &[u32; 10], words: &[u32; 96], right: Right, address: u32) -
     ensures { λ r. ⌜ ((d a : List ℕ) → PermitSays (registers d a (now (core .entry))) (rangesIn (now (words .entry))) (access right address) r) ⌝ }
 {
     if 0xE000_0000 <= address {
-        return Permit::Unasked;
+        return Permit::Unnamed;
     }
     if !fields::syscon::protection(core[SYSCON]) {
-        return Permit::Unasked;
+        return Permit::Unnamed;
     }
     match search(
         words,
@@ -53,7 +54,7 @@ fn permit_for(core: &[u32; 10], words: &[u32; 96], right: Right, address: u32) -
         right,
         address,
     ) {
-        Found::Nothing => Permit::Unasked,
+        Found::Nothing => Permit::Unnamed,
         Found::By(k) => Permit::By(k),
     }
 }
@@ -73,16 +74,10 @@ fn permit_record(
     let x = wide(image[at + 2]);
     let address = plus(a[x], word_at(image, at + 4));
     match access_of(image[at]) {
-        Access::Nothing => Permit::Unasked,
+        Access::Nothing => Permit::Unnamed,
         Access::Read => permit_for(core, words, Right::Read, address),
         Access::Write => permit_for(core, words, Right::Write, address),
     }
-}
-
-fn wide(b: u8) -> usize
-    ensures { λ r. ⌜ r ≡ b ⌝ }
-{
-    b as usize
 }
 
 // Of the data access of the instruction at PC.
@@ -92,11 +87,11 @@ fn permit_data(image: &[u8], a: &[u32; 16], core: &[u32; 10], words: &[u32; 96])
 {
     let pc = core[PC];
     match check_access(core, words, Right::Execute, pc) {
-        Check::Fails(_) => Permit::Unasked,
+        Check::Fails(_) => Permit::Unnamed,
         Check::Passes => {
             let rest = rest_at(image, pc);
             if rest.records == 0 {
-                return Permit::Unasked;
+                return Permit::Unnamed;
             }
             permit_record(image, a, core, words, rest.at, pc)
         }
@@ -117,15 +112,15 @@ pub fn permits_of(
 {
     if !fields::syscon::protection(core[SYSCON]) {
         return Permits {
-            fetch: Permit::Unasked,
-            data: Permit::Unasked,
+            fetch: Permit::Unnamed,
+            data: Permit::Unnamed,
         };
     }
     let best = best_source(requests);
     if taken(core[ICR], best.level) {
         return Permits {
-            fetch: Permit::Unasked,
-            data: Permit::Unasked,
+            fetch: Permit::Unnamed,
+            data: Permit::Unnamed,
         };
     }
     Permits {

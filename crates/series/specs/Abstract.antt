@@ -66,14 +66,14 @@ pub record SaveOf : Type 0 where
 pub data Move : Type 0 where
   none : Move
   saves : SaveOf → Move
-  returns : Half → Move
+  returns : Move
 
 abbrev pub moveOf : Decision → Registers → Move
 moveOf (Keep q) r = none
 moveOf (Write op at v q) r = none
 moveOf (Save e half saved-pc then) r =
     saves (record { half = half; registers = named half r; limit = linkOf (lcx r); icr = icr r; reached = upperRegisters (then r) })
-moveOf (Return half then) r = returns half
+moveOf (Return half then) r = returns
 
 -- the FCD entry's save, after the one that took l. Where there is no link for it the step is a stop
 abbrev pub saveTwo : SaveOf → Link → List Link → AbstractLists → AbstractLists
@@ -93,4 +93,4 @@ returnOne (c ∷ cs) b = lists (c .link ∷ b .free) cs
 unfoldable pub moved : Move → AbstractLists → AbstractLists
 moved none b = b
 moved (saves s) b = saveOne s (b .free) b
-moved (returns half) b = returnOne (b .saved) b
+moved returns b = returnOne (b .saved) b

@@ -9,14 +9,16 @@ use registers::Registers;
 ghost use mathlib.Core.Path.{_≡_};
 ghost use Rattle.memory.specs.Memory.{memory};
 ghost use Rattle.registers.specs.Registers.{pc, fcx, pcxi};
+ghost use Rattle.words.specs.Exactly.{Exactly};
 ghost use Rattle.inputs.specs.Checks.{startVerdict};
+ghost use Rattle.inputs.specs.Rules.{StartSays};
 ghost use Rattle.inputs.specs.declared.verdict.Verdict.the-variants as verdict;
 ghost use Rattle.series.specs.Calls.{state};
 ghost use Rattle.series.specs.Claim.{Follows};
 
 // All six rules, of a machine in that state.
 pub fn start(base: Address, window: &[u8], image: &[u8], registers: Registers) -> Verdict
-    ensures { λ r. ⌜ r ≡ startVerdict (memory (base .0) (now (window .entry))) (now (image .entry)) (pc registers) (fcx registers) (pcxi registers) ⌝ }
+    ensures { λ r. ⌜ (r ≡ startVerdict (memory (base .0) (now (window .entry))) (now (image .entry)) (pc registers) (fcx registers) (pcxi registers)) × Exactly (StartSays (memory (base .0) (now (window .entry))) (now (image .entry)) (pc registers) (fcx registers) (pcxi registers)) r ⌝ }
     ensures { λ r. ⌜ ((r ≡ verdict.Accepted) → Follows (state registers (memory (base .0) (now (window .entry))))) ⌝ }
 {
     inputs::checks::try_start(

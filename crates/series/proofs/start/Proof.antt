@@ -12,7 +12,7 @@ returns : tie.Need-returns
 returns c =
     let s : State = state (c .before .before .before .before .before .before .args .t4) (memory (c .before .before .before .before .before .before .args .base .0) (c .before .before .before .before .before .before .args .window .now)) in
     let e = c .try-start .ensures .0 .0 in
-    (e, λ a. follows s _ (sym e ∙ a) (valid-of (c .before .before .before .before .before .before .good .1 .1 .1 .0) (start-even s _ (sym e ∙ a))) (bytes-of (c .before .before .before .before .before .shared-slice-known .given)))
+    (c .try-start .ensures .0, λ a. follows s _ (sym e ∙ a) (valid-of (c .before .before .before .before .before .before .good .1 .1 .1 .0) (start-even s _ (sym e ∙ a))) (bytes-of (c .before .before .before .before .before .shared-slice-known .given)))
 
 pub start-spec : {M : Type 1} → statement M
 start-spec =
