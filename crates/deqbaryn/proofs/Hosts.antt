@@ -11,11 +11,13 @@ use Rattle.memory.specs.Memory.{Memory}
 use Rattle.registers.specs.Registers.{pc, fcx, pcxi}
 use Rattle.registers.specs.declared.Registers.{Registers}
 use Rattle.protection.specs.declared.range.Range.{Range}
+use Rattle.words.specs.Exactly.{Exactly}
 use Rattle.inputs.specs.Checks.{startVerdict}
+use Rattle.inputs.specs.Rules.{StepSays, StartSays}
 use Rattle.inputs.specs.declared.verdict.Verdict.{Verdict}
 use Rattle.inputs.specs.declared.verdict.Verdict.the-variants as verdict
 use Rattle.decisions.specs.Valid.{Words}
-use Rattle.machine.specs.Step.{StepOf, stepped, stepOf}
+use Rattle.machine.specs.Step.{verdictIn, StepOf, stepped, stepOf}
 use Rattle.machine.specs.Run.{RunOf, ran, runOf, RefusedKeeps}
 use Rattle.permits.specs.Permits.{fetchOfStep, dataOfStep, PermitSays}
 use Rattle.machine.specs.declared.answer.Outcome.{Outcome}
@@ -26,7 +28,7 @@ use Rattle.series.specs.Calls.{state}
 use Rattle.records.specs.CoreRecord.{registersIn, requestsIn, rangesOf, storedIn}
 use Rattle.records.proofs.Kept.{stored-kept, registers-back}
 use Rattle.answers.specs.Answers.{packedOf, permitsNumber, outcomeAnswer, wrongLength, verdictAnswer}
-use Rattle.deqbaryn.specs.Host.{isRecord, startAnswer, left, stepStored, runStored, stepLeft, StepAnswer, StepAnswers, StepHolds, runOn, afterRun, runLeft, runAnswer, RunHolds, UnmadeKeeps}
+use Rattle.deqbaryn.specs.Host.{isRecord, startAnswer, StartTells, left, stepStored, runStored, stepLeft, StepAnswer, StepAnswers, StepTells, StepHolds, runOn, afterRun, runLeft, runAnswer, RunTells, RunHolds, UnmadeKeeps}
 use Rattle.deqbaryn.specs.Calls.{HostFollows, AcceptedFollows}
 
 -- only a start that is accepted is answered so
@@ -58,21 +60,21 @@ module _ (bytes : List ℕ) (l : length bytes ≡ 616) (q : Registers) (w : Word
 module _ (bytes : List ℕ) (m : Memory) (img : List ℕ) where
   -- ---- a record of another length
   module _ (w : length bytes ≡ 616 → ⊥) {n : ℕ} (is : n ≡ wrongLength) where
-    pub start-wrong : (n ≡ startAnswer bytes m img) × AcceptedFollows bytes m n
-    start-wrong = (rw (ne-eqb (length bytes) 616 w) is, λ e. absurd (wrong-differs (sym is ∙ e)))
+    pub start-wrong : (n ≡ startAnswer bytes m img) × (StartTells bytes m img n × AcceptedFollows bytes m n)
+    start-wrong = (rw (ne-eqb (length bytes) 616 w) is, (λ l. absurd (w l), λ e. absurd (wrong-differs (sym is ∙ e))))
 
-    pub step-wrong : (left bytes m ≡ stepLeft bytes m img) × (StepAnswers bytes m img n × StepHolds bytes m img bytes)
-    step-wrong = (rw (ne-eqb (length bytes) 616 w), (rw (ne-eqb (length bytes) 616 w) is, λ l. absurd (w l)))
+    pub step-wrong : (left bytes m ≡ stepLeft bytes m img) × (StepAnswers bytes m img n × (StepTells bytes m img × StepHolds bytes m img bytes))
+    step-wrong = (rw (ne-eqb (length bytes) 616 w), (rw (ne-eqb (length bytes) 616 w) is, (λ l. absurd (w l), λ l. absurd (w l))))
 
-    pub run-wrong : (k : ℕ) → (left bytes m ≡ runLeft k bytes m img) × (n ≡ runAnswer k bytes m img) × RunHolds k bytes m img bytes
-    run-wrong k = (rw (ne-eqb (length bytes) 616 w), rw (ne-eqb (length bytes) 616 w) is, λ l. absurd (w l))
+    pub run-wrong : (k : ℕ) → (left bytes m ≡ runLeft k bytes m img) × (n ≡ runAnswer k bytes m img) × RunTells k bytes m img × RunHolds k bytes m img bytes
+    run-wrong k = (rw (ne-eqb (length bytes) 616 w), rw (ne-eqb (length bytes) 616 w) is, λ l. absurd (w l), λ l. absurd (w l))
 
   -- ---- a record, with what is read from it
   module _ (l : length bytes ≡ 616) {r : Registers} (reg : r ≡ registersIn bytes) where
-    pub start-right : {v : Verdict} {n : ℕ} → v ≡ startVerdict m img (pc r) (fcx r) (pcxi r) → (v ≡ verdict.Accepted → HostFollows (state r m)) → n ≡ verdictAnswer v
-        → (n ≡ startAnswer bytes m img) × AcceptedFollows bytes m n
-    start-right {v} said follows is =
-        (rw (eq-eqb (length bytes) 616 l, ← reg) (is ∙ ap verdictAnswer said), λ e. rw (← reg) (follows (accepted v (sym is ∙ e))))
+    pub start-right : {v : Verdict} {n : ℕ} → v ≡ startVerdict m img (pc r) (fcx r) (pcxi r) → Exactly (StartSays m img (pc r) (fcx r) (pcxi r)) v → (v ≡ verdict.Accepted → HostFollows (state r m)) → n ≡ verdictAnswer v
+        → (n ≡ startAnswer bytes m img) × (StartTells bytes m img n × AcceptedFollows bytes m n)
+    start-right {v} said x follows is =
+        (rw (eq-eqb (length bytes) 616 l, ← reg) (is ∙ ap verdictAnswer said), (λ _. record { answer = v; number = is; exactly = rw (← reg) x }, λ e. rw (← reg) (follows (accepted v (sym is ∙ e)))))
 
     module _ {xs : List ℕ} (req : xs ≡ requestsIn bytes) {rs : List Range} (rng : rs ≡ rangesOf bytes) {o : Outcome} {q : Registers} {ys : List ℕ} {after : Memory} where
       module _ (s : stepped o q ys after ≡ stepOf img r xs rs m) where
@@ -100,8 +102,8 @@ module _ (bytes : List ℕ) (m : Memory) (img : List ℕ) where
 
         pub step-right : Words 16 (q .d) × Words 16 (q .a) × Words 10 (q .core) → {core : List ℕ} → core ≡ stepStored o q ys bytes
             → (f d : Permit) → PermitSays r rs (fetchOfStep img r xs m) f → PermitSays r rs (dataOfStep img r xs rs m) d
-            → {n : ℕ} → n ≡ outcomeAnswer o (permitsNumber f d) 0 → (left core after ≡ stepLeft bytes m img) × (StepAnswers bytes m img n × StepHolds bytes m img core)
-        step-right w is f d p p′ e = (step-left is, (step-answer f d p p′ e, step-holds w is))
+            → Exactly (StepSays m img (pc r)) (verdictIn o) → {n : ℕ} → n ≡ outcomeAnswer o (permitsNumber f d) 0 → (left core after ≡ stepLeft bytes m img) × (StepAnswers bytes m img n × (StepTells bytes m img × StepHolds bytes m img core))
+        step-right w is f d p p′ x e = (step-left is, (step-answer f d p p′ e, (λ _. rw (← reg, ← req, ← rng, ← s) x, step-holds w is)))
 
       module _ (k made : ℕ) (s : ran o made q ys after ≡ runOf k img r xs rs m) where
         run-holds : Words 16 (q .d) × Words 16 (q .a) × Words 10 (q .core) → RefusedKeeps r xs m (ran o made q ys after)
@@ -109,10 +111,10 @@ module _ (bytes : List ℕ) (m : Memory) (img : List ℕ) where
         run-holds w u is _ = rw (← reg, ← req, ← rng, ← s, is) (run-stored bytes l q w ys reg xs m after o made u)
 
         pub run-right : Words 16 (q .d) × Words 16 (q .a) × Words 10 (q .core) → RefusedKeeps r xs m (ran o made q ys after)
-            → {core : List ℕ} → core ≡ runStored o q ys bytes → {n : ℕ} → n ≡ outcomeAnswer o 0 made
-            → (left core after ≡ runLeft k bytes m img) × (n ≡ runAnswer k bytes m img) × RunHolds k bytes m img core
-        run-right w u is e =
-            (rw (eq-eqb (length bytes) 616 l, ← reg, ← req, ← rng, ← s, is), rw (eq-eqb (length bytes) 616 l, ← reg, ← req, ← rng, ← s) e, run-holds w u is)
+            → Exactly (StepSays m img (pc r)) (verdictIn o) → {core : List ℕ} → core ≡ runStored o q ys bytes → {n : ℕ} → n ≡ outcomeAnswer o 0 made
+            → (left core after ≡ runLeft k bytes m img) × (n ≡ runAnswer k bytes m img) × RunTells k bytes m img × RunHolds k bytes m img core
+        run-right w u x is e =
+            (rw (eq-eqb (length bytes) 616 l, ← reg, ← req, ← rng, ← s, is), rw (eq-eqb (length bytes) 616 l, ← reg, ← req, ← rng, ← s) e, λ _. rw (← reg, ← req, ← rng, ← s) x, run-holds w u is)
 
   -- ---- a run of which no step is made
   module _ (b : (j : ℕ) → getD bytes j 0 < 2 ^ 8) where

@@ -8,8 +8,10 @@ use lib.Dec.{eqb}
 use Rattle.memory.specs.Memory.{Memory}
 use Rattle.registers.specs.Registers.{pc, fcx, pcxi}
 use Rattle.registers.specs.declared.Registers.{Registers}
+use Rattle.words.specs.Exactly.{Exactly, Tells}
 use Rattle.inputs.specs.Checks.{startVerdict}
-use Rattle.machine.specs.Step.{StepOf, stepOf}
+use Rattle.inputs.specs.Rules.{StepSays, StartSays}
+use Rattle.machine.specs.Step.{verdictIn, StepOf, stepOf}
 use Rattle.machine.specs.Run.{RunOf, runOf}
 use Rattle.permits.specs.Permits.{fetchOfStep, dataOfStep, PermitSays}
 use Rattle.machine.specs.declared.answer.Outcome.{Outcome}
@@ -27,6 +29,10 @@ startOn r m img = verdictAnswer (startVerdict m img (pc r) (fcx r) (pcxi r))
 
 abbrev pub startAnswer : List ℕ → Memory → List ℕ → ℕ
 startAnswer bytes m img = cond (isRecord bytes) (startOn (registersIn bytes) m img) wrongLength
+
+-- accepted or refused exactly where the six rules say so
+abbrev pub StartTells : List ℕ → Memory → List ℕ → ℕ → Type 0
+StartTells bytes m img n = length bytes ≡ 616 → (let r = registersIn bytes in Tells verdictAnswer (StartSays m img (pc r) (fcx r) (pcxi r)) n)
 
 -- ---- what a step or a run leaves
 pub record Left : Type 0 where
@@ -73,6 +79,10 @@ StepAnswersBy false bytes m img n = n ≡ wrongLength
 abbrev pub StepAnswers : List ℕ → Memory → List ℕ → ℕ → Type 0
 StepAnswers bytes m img n = StepAnswersBy (isRecord bytes) bytes m img n
 
+-- refused exactly where the rules 1 to 4 say so, and else made or stopped
+abbrev pub StepTells : List ℕ → Memory → List ℕ → Type 0
+StepTells bytes m img = length bytes ≡ 616 → Exactly (StepSays m img (pc (registersIn bytes))) (verdictIn (stepOn bytes m img .outcome))
+
 -- the record then holds the registers after the step, for the next call to read
 abbrev pub StepHolds : List ℕ → Memory → List ℕ → List ℕ → Type 0
 StepHolds bytes m img after = length bytes ≡ 616 → registersIn after ≡ stepOn bytes m img .registers
@@ -93,6 +103,10 @@ ranAnswer v = outcomeAnswer (v .outcome) 0 (v .made)
 
 abbrev pub runAnswer : ℕ → List ℕ → Memory → List ℕ → ℕ
 runAnswer n bytes m img = cond (isRecord bytes) (ranAnswer (runOn n bytes m img)) wrongLength
+
+-- refused exactly where the rules 1 to 4 say so
+abbrev pub RunTells : ℕ → List ℕ → Memory → List ℕ → Type 0
+RunTells n bytes m img = length bytes ≡ 616 → Exactly (StepSays m img (pc (registersIn bytes))) (verdictIn (runOn n bytes m img .outcome))
 
 -- the record then holds the registers after the run
 abbrev pub RunHolds : ℕ → List ℕ → Memory → List ℕ → List ℕ → Type 0

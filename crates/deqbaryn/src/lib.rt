@@ -17,13 +17,14 @@ use series::start;
 ghost use mathlib.Core.Path.{_≡_};
 ghost use lib.ListN.{length};
 ghost use Rattle.memory.specs.Memory.{memory};
-ghost use Rattle.deqbaryn.specs.Host.{startAnswer, stepStored, runStored, left, stepLeft, runLeft, StepAnswers, StepHolds, runAnswer, RunHolds, UnmadeKeeps};
+ghost use Rattle.deqbaryn.specs.Host.{startAnswer, StartTells, stepStored, runStored, left, stepLeft, runLeft, StepAnswers, StepTells, StepHolds, runAnswer, RunTells, RunHolds, UnmadeKeeps};
 ghost use Rattle.deqbaryn.specs.Calls.{AcceptedFollows};
 
 // Whether the start is accepted, with PC, FCX and PCXI of the record.
 #[no_mangle]
 pub extern "C" fn deqbaryn_start(core: &[u8], base: u32, window: &[u8], image: &[u8]) -> u64
     ensures { λ r. ⌜ r ≡ startAnswer (now (core .entry)) (memory base (now (window .entry))) (now (image .entry)) ⌝ }
+    ensures { λ r. ⌜ StartTells (now (core .entry)) (memory base (now (window .entry))) (now (image .entry)) r ⌝ }
     ensures { λ r. ⌜ AcceptedFollows (now (core .entry)) (memory base (now (window .entry))) r ⌝ }
     ensures unchanged { λ _. ⌜ (now (core .exit) ≡ now (core .entry)) × (now (window .exit) ≡ now (window .entry)) × (now (image .exit) ≡ now (image .entry)) ⌝ }
 {
@@ -62,6 +63,7 @@ fn store_run(core: &mut [u8], outcome: Outcome, registers: Registers, requests: 
 pub extern "C" fn deqbaryn_step(core: &mut [u8], base: u32, window: &mut [u8], image: &[u8]) -> u64
     ensures { λ _. ⌜ left (now (core .exit)) (memory base (now (window .exit))) ≡ stepLeft (now (core .entry)) (memory base (now (window .entry))) (now (image .entry)) ⌝ }
     ensures { λ r. ⌜ StepAnswers (now (core .entry)) (memory base (now (window .entry))) (now (image .entry)) r ⌝ }
+    ensures { λ _. ⌜ StepTells (now (core .entry)) (memory base (now (window .entry))) (now (image .entry)) ⌝ }
     ensures { λ _. ⌜ StepHolds (now (core .entry)) (memory base (now (window .entry))) (now (image .entry)) (now (core .exit)) ⌝ }
 {
     if core.len() != 616 {
@@ -90,6 +92,7 @@ pub extern "C" fn deqbaryn_run(
 ) -> u64
     ensures { λ _. ⌜ left (now (core .exit)) (memory base (now (window .exit))) ≡ runLeft n (now (core .entry)) (memory base (now (window .entry))) (now (image .entry)) ⌝ }
     ensures { λ r. ⌜ r ≡ runAnswer n (now (core .entry)) (memory base (now (window .entry))) (now (image .entry)) ⌝ }
+    ensures { λ _. ⌜ RunTells n (now (core .entry)) (memory base (now (window .entry))) (now (image .entry)) ⌝ }
     ensures { λ _. ⌜ RunHolds n (now (core .entry)) (memory base (now (window .entry))) (now (image .entry)) (now (core .exit)) ⌝ }
     ensures { λ _. ⌜ UnmadeKeeps n (now (core .entry)) (memory base (now (window .entry))) (now (image .entry)) (left (now (core .exit)) (memory base (now (window .exit)))) ⌝ }
 {

@@ -2,8 +2,9 @@
 -- Assumes nothing.
 use Prim.Native.Nat.{ℕ}
 use native.Mathlib.Omega.{arith}
-use mathlib.Core.Path.{_≡_, refl, ap}
+use mathlib.Core.Path.{_≡_, refl, ap, _∙_}
 use mathlib.Core.List.{List}
+use Rattle.words.specs.Exactly.{Exactly}
 use Rattle.memory.specs.Memory.{Memory}
 use Rattle.registers.specs.Registers.{pc}
 use Rattle.registers.specs.declared.Registers.{Registers}
@@ -11,11 +12,14 @@ use Rattle.events.specs.declared.event.Event.the-variants as event
 use Rattle.protection.specs.declared.range.Range.{Range}
 use Rattle.inputs.specs.Checks.{stepVerdict}
 use Rattle.inputs.specs.declared.verdict.Refusal.{Refusal}
+use Rattle.inputs.specs.Rules.{StepSays}
+use Rattle.inputs.specs.declared.verdict.Verdict.{Verdict}
 use Rattle.inputs.specs.declared.verdict.Verdict.the-variants.{Accepted, Refused}
+use Rattle.inputs.proofs.Verdicts.{step-exactly}
 use Rattle.events.specs.declared.event.Ending.{Ending}
 use Rattle.events.specs.declared.event.Ending.the-variants as ending
 use Rattle.decisions.specs.Phases.{oneOf}
-use Rattle.machine.specs.Step.{outcomeOf, StepOf, stepped, acceptedBy, stepOf}
+use Rattle.machine.specs.Step.{outcomeOf, verdictIn, StepOf, stepped, acceptedBy, steppedBy, stepOf}
 use Rattle.machine.specs.Inner.{Ready}
 use Rattle.machine.proofs.Turns.{accepted-step, ready-next}
 use Rattle.machine.specs.Run.{RunOf, ran, onward, runFrom, runOf, RefusedKeeps}
@@ -48,6 +52,27 @@ module _ (img : List ℕ) (r : Registers) (xs : List ℕ) (rs : List Range) (m :
   pub run-accepted : (n : ℕ) → stepVerdict m img (pc r) ≡ Accepted → runOf n img r xs rs m ≡ runFrom n img rs (outcome.Made event.Instruction) 0 r xs m
   unfolding runOf
   run-accepted n e = rw e
+
+  -- what the outcome says of the rules
+  accepted-verdict : (e : Ending) (q : Registers) (n : Memory) → verdictIn (acceptedBy r xs m e q n .outcome) ≡ Accepted
+  accepted-verdict (ending.Made e) q n = refl
+  accepted-verdict (ending.Stopped s) q n = refl
+
+  step-verdict : verdictIn (stepOf img r xs rs m .outcome) ≡ stepVerdict m img (pc r)
+  unfolding stepOf
+  step-verdict = by (stepVerdict m img (pc r))
+    where
+      by : (v : Verdict) → verdictIn (steppedBy img r xs rs m v .outcome) ≡ v
+      by (Refused x) = refl
+      by Accepted = let v = oneOf img r xs rs m in accepted-verdict (v .ending) (v .registers) (v .memory)
+
+  pub step-told : {o : Outcome} {q : Registers} {ys : List ℕ} {n : Memory} → stepped o q ys n ≡ stepOf img r xs rs m → Exactly (StepSays m img (pc r)) (verdictIn o)
+  step-told {o} e = step-exactly m img (pc r) (verdictIn o) (ap (λ (s : StepOf). verdictIn (s .outcome)) e ∙ step-verdict) .1
+
+-- an ending is that of an accepted machine
+pub ending-verdict : (e : Ending) {o : Outcome} → o ≡ outcomeOf e → verdictIn o ≡ Accepted
+ending-verdict (ending.Made e) h = rw h
+ending-verdict (ending.Stopped s) h = rw h
 
 -- a refused run leaves all as it was
 pub refused-keeps : (r : Registers) (xs : List ℕ) (m : Memory) (x : Refusal) → RefusedKeeps r xs m (ran (outcome.Refused x) 0 r xs m)

@@ -18,6 +18,12 @@ abbrev pub outcomeOf : Ending → Outcome
 outcomeOf (ending.Made e) = Made e
 outcomeOf (ending.Stopped s) = Stopped s
 
+-- what an outcome says of the rules 1 to 4
+abbrev pub verdictIn : Outcome → Verdict
+verdictIn (Made e) = verdict.Accepted
+verdictIn (Stopped s) = verdict.Accepted
+verdictIn (Refused x) = verdict.Refused x
+
 -- the outcome, and registers, requests and memory after the step
 pub record StepOf : Type 0 where
   pub outcome : Outcome

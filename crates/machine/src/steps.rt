@@ -15,8 +15,11 @@ use protection::range::flat;
 use registers::PC;
 use registers::Registers;
 ghost use mathlib.Core.Path.{_≡_};
+ghost use Rattle.words.specs.Exactly.{Exactly};
 ghost use Rattle.memory.specs.Memory.{memory};
-ghost use Rattle.machine.specs.Step.{stepped, stepOf};
+ghost use Rattle.registers.specs.Registers.{pc};
+ghost use Rattle.inputs.specs.Rules.{StepSays};
+ghost use Rattle.machine.specs.Step.{verdictIn, stepped, stepOf};
 ghost use Rattle.machine.specs.Run.{ran, runOf, RefusedKeeps};
 ghost use Rattle.permits.specs.Permits.{fetchOfStep, dataOfStep, PermitSays};
 ghost use Rattle.machine.specs.Inner.{Ready};
@@ -81,14 +84,15 @@ pub fn step(
     ensures { λ r. ⌜ stepped (r .outcome) (r .registers) (r .requests) (memory (base .0) (now (window .exit))) ≡ stepOf (now (image .entry)) registers requests ranges (memory (base .0) (now (window .entry))) ⌝ }
     ensures { λ r. ⌜ PermitSays registers ranges (fetchOfStep (now (image .entry)) registers requests (memory (base .0) (now (window .entry)))) (r .fetch) ⌝ }
     ensures { λ r. ⌜ PermitSays registers ranges (dataOfStep (now (image .entry)) registers requests ranges (memory (base .0) (now (window .entry)))) (r .data) ⌝ }
+    ensures { λ r. ⌜ Exactly (StepSays (memory (base .0) (now (window .entry))) (now (image .entry)) (pc registers)) (verdictIn (r .outcome)) ⌝ }
 {
     match try_step(base, window, image, registers.core[PC]) {
         Verdict::Refused(x) => Stepped {
             registers: registers,
             requests: requests,
             outcome: Outcome::Refused(x),
-            fetch: Permit::Unasked,
-            data: Permit::Unasked,
+            fetch: Permit::Unnamed,
+            data: Permit::Unnamed,
         },
         Verdict::Accepted => { step_accepted(base, window, image, registers, requests, ranges) }
     }
@@ -106,6 +110,7 @@ pub fn run(
 ) -> Ran
     ensures { λ r. ⌜ ran (r .outcome) (r .made) (r .registers) (r .requests) (memory (base .0) (now (window .exit))) ≡ runOf n (now (image .entry)) registers requests ranges (memory (base .0) (now (window .entry))) ⌝ }
     ensures { λ r. ⌜ RefusedKeeps registers requests (memory (base .0) (now (window .entry))) (ran (r .outcome) (r .made) (r .registers) (r .requests) (memory (base .0) (now (window .exit)))) ⌝ }
+    ensures { λ r. ⌜ Exactly (StepSays (memory (base .0) (now (window .entry))) (now (image .entry)) (pc registers)) (verdictIn (r .outcome)) ⌝ }
 {
     match try_step(base, window, image, registers.core[PC]) {
         Verdict::Refused(x) => Ran {
