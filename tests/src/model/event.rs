@@ -13,15 +13,16 @@ macro_rules! traps {
         $(pub const $name: Trap = Trap { class: $class, tin: $tin };)*
         /// The traps of document 01 whose TIN is fixed.
         pub const TRAPS: [Trap; 17] = [$($name),*];
+        pub const TRAP_NAMES: [&str; 17] = [$(stringify!($name)),*];
     };
 }
 
-// the manual's names; of 4/1 and 4/2 the later editions'
+// the manual's names; it has none for 4/1 and 4/2 as document 01 has them
 traps! {
     PRIV 1/1 MPR 1/2 MPW 1/3 MPX 1/4 MPP 1/5 GRWP 1/7
     ALN 2/4
     FCD 3/1 CDO 3/2 CDU 3/3 CSU 3/5 CTYP 3/6 NEST 3/7
-    PSE 4/1 DSE 4/2
+    CODE 4/1 DATA 4/2
     OVF 5/1 SOVF 5/2
 }
 

@@ -3,7 +3,7 @@
 use super::checks;
 use super::code::Code;
 use super::core::{Core, RECORD};
-use super::event::{answer, Event, Stop, Undone, PSE};
+use super::event::{answer, Event, Stop, Undone, CODE};
 use super::fields::{icr, request};
 use super::observer::Observer;
 use super::operations::Operation::{Syscall, Trapsv, Trapv};
@@ -65,7 +65,7 @@ impl<'a, O: Observer> Machine<'a, O> {
             return self.trap(trap, pc);
         }
         let Some(instruction) = self.code.fetch(pc) else {
-            return self.trap(PSE, pc);
+            return self.trap(CODE, pc);
         };
         self.observer.fetched(instruction.operation as u8);
         match self.execute(instruction) {

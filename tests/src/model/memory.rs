@@ -1,7 +1,7 @@
 //! Loads and stores.
 
 use super::code::Instruction;
-use super::event::{Trap, ALN, DSE};
+use super::event::{Trap, ALN, DATA};
 use super::machine::Machine;
 use super::observer::Observer;
 use super::protection::Access;
@@ -27,7 +27,7 @@ impl<O: Observer> Machine<'_, O> {
         }
         let offset = address.wrapping_sub(self.base) as usize;
         if offset + size > self.window.len() {
-            return Err(DSE);
+            return Err(DATA);
         }
         Ok(offset)
     }
