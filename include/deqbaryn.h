@@ -3,7 +3,8 @@
  * docs/REFERENCE.md says what every number here means: the bits of the registers, the
  * image byte by byte, what each operation does, and each answer. This file names them.
  *
- * Link target/staticlib/libdeqbaryn.a, which `rt staticlib deqbaryn` writes (x86-64).
+ * Link target/staticlib/libdeqbaryn.a, which `rt staticlib deqbaryn` writes (x86-64),
+ * to C99 or later, or to C++. It needs memset and nothing else from outside.
  *
  * The host lends each call a core record, a data window whose first byte has the
  * address `base`, and a code image. No pointer is kept after a call, and nothing is
@@ -68,7 +69,8 @@ enum deqbaryn_kind {
  * tried with all six, a step and a run with the first four. */
 enum deqbaryn_refusal {
     DEQBARYN_BAD_WINDOW = 1,
-    DEQBARYN_BAD_TABLE = 2,    /* place: the entry, from 1; 0: the count, or cut short */
+    DEQBARYN_BAD_TABLE = 2,    /* place: the entry, from 1; 0: the count, or the table
+                                  itself cut short */
     DEQBARYN_BAD_RECORD = 3,   /* place: the record, from 0 over all bodies */
     DEQBARYN_ODD_PC = 4,
     DEQBARYN_LINK_OUTSIDE = 5, /* a list's link names no area of the window */
@@ -199,8 +201,9 @@ enum deqbaryn_offset {
 };
 
 /* Tries the six rules of a start, with PC, FCX and PCXI of the record: accepted, or
- * refused. Nothing changes. What is proved of the lists over any steps and runs from
- * an accepted start is in docs/CLAIMS.md, demand 3. */
+ * refused. Nothing changes. What holds of the lists over any steps and runs from an
+ * accepted start: docs/REFERENCE.md, "Series of calls", proved as docs/CLAIMS.md has
+ * it under demand 3. */
 uint64_t deqbaryn_start(const uint8_t *core, size_t core_len, uint32_t base,
                         const uint8_t *window, size_t window_len,
                         const uint8_t *image, size_t image_len);
@@ -211,9 +214,10 @@ uint64_t deqbaryn_step(uint8_t *core, size_t core_len, uint32_t base,
                        uint8_t *window, size_t window_len,
                        const uint8_t *image, size_t image_len);
 
-/* Makes n steps, or those up to the first stop. The kind is that of the last step;
- * n = 0 answers an instruction, or the refusal. A stop leaves all as the last step
- * made left it; a refusal leaves all as it was. */
+/* Makes n steps, or those up to the first stop. The kind is that of the last step, or
+ * of the stop; earlier traps and interrupts are not told. n = 0 answers an instruction,
+ * or the refusal. A stop leaves all as the last step made left it; a refusal leaves
+ * all as it was. */
 uint64_t deqbaryn_run(uint8_t *core, size_t core_len, uint32_t base,
                       uint8_t *window, size_t window_len,
                       const uint8_t *image, size_t image_len, uint32_t n);

@@ -1,8 +1,10 @@
 -- Verdicts and fetched records as numbers.
 use Prim.Native.Nat.{ℕ, _+_, _*_, _^_}
+use mathlib.Core.Path.{_≡_}
 use mathlib.Core.List.{List}
 use Rattle.image.specs.Records.{imageOf}
-use Rattle.image.specs.Fetch.{fetchOf}
+use Rattle.image.specs.Rules.{ImageRight}
+use Rattle.image.specs.Fetch.{fetchOf, FetchSays}
 use Rattle.image.specs.declared.records.ImageCheck.{ImageCheck}
 use Rattle.image.specs.declared.records.ImageCheck.the-variants as image
 use Rattle.image.specs.declared.fetch.Fetched.{Fetched}
@@ -23,6 +25,17 @@ packedFetch (Found i) = i .imm * 2 ^ 32 + i .b * 2 ^ 24 + i .a * 2 ^ 16 + i .c *
 
 abbrev pub fetchedOf : List ℕ → ℕ → ℕ
 fetchedOf img pc = packedFetch (fetchOf img pc)
+
+-- the number of the record that begins at pc, or of none where none does
+pub record FetchTells (img : List ℕ) (pc n : ℕ) : Type 0 where
+  pub fetched : Fetched
+  pub number : n ≡ packedFetch fetched
+  pub says : FetchSays img pc fetched
+
+-- of an image that rules 2 and 3 accept; of any other 0
+pub record FetchTold (img : List ℕ) (pc n : ℕ) : Type 0 where
+  pub right : ImageRight img → FetchTells img pc n
+  pub refused : (ImageRight img → ⊥) → n ≡ 0
 
 abbrev pub fetchedBy : ImageCheck → List ℕ → ℕ → ℕ
 fetchedBy image.Holds img pc = fetchedOf img pc

@@ -13,7 +13,7 @@ ghost use Rattle.image.specs.Records.{ImageHolds};
 ghost use Rattle.words.specs.Exactly.{Tells};
 ghost use Rattle.inputs.specs.Checks.{imageVerdict, listsVerdict, stepVerdict, startVerdict};
 ghost use Rattle.inputs.specs.Rules.{ContentsSay, ListsSay, StepSays, StartSays};
-ghost use Rattle.inputs_export.specs.Export.{verdictOf, fetchedOf, exportedFetch};
+ghost use Rattle.inputs_export.specs.Export.{verdictOf, FetchTells, FetchTold, fetchedOf, exportedFetch};
 
 // 0 for accepted; else the rule's number, and its place in the high word.
 fn packed(v: Verdict) -> u64
@@ -63,7 +63,7 @@ pub extern "C" fn deqbaryn_try_start(
 // The record at pc of an accepted image: 1, c, a, b from the lowest byte on, and the immediate in the high word. 0 where no record begins there, or the image is refused.
 #[no_mangle]
 pub extern "C" fn deqbaryn_fetch(image: &[u8], pc: u32) -> u64
-    ensures { λ r. ⌜ r ≡ exportedFetch (now (image .entry)) pc ⌝ }
+    ensures { λ r. ⌜ (r ≡ exportedFetch (now (image .entry)) pc) × FetchTold (now (image .entry)) pc r ⌝ }
 {
     match image::records::check_image(image) {
         image::records::ImageCheck::Holds => fetched(image, pc),
@@ -74,7 +74,7 @@ pub extern "C" fn deqbaryn_fetch(image: &[u8], pc: u32) -> u64
 
 fn fetched(image: &[u8], pc: u32) -> u64
     requires { ⌜ ImageHolds (now image) ⌝ }
-    ensures { λ r. ⌜ r ≡ fetchedOf (now (image .entry)) pc ⌝ }
+    ensures { λ r. ⌜ (r ≡ fetchedOf (now (image .entry)) pc) × FetchTells (now (image .entry)) pc r ⌝ }
 {
     match fetch(image, pc) {
         Fetched::Nothing => 0,

@@ -1,7 +1,8 @@
 -- `inputs_export::fetched` meets its contract. Assumes nothing.
 use borrow.Author.Needs.{needs}
+use mathlib.Core.Path.{refl}
 use Rattle.image.specs.Fetch.{Bounded}
-use Rattle.image.specs.declared.fetch.Fetched.the-variants.{Found}
+use Rattle.image.specs.declared.fetch.Fetched.the-variants.{Found, Nothing}
 use native.Mathlib.Omega.{arith}
 use Rattle.inputs_export.proofs.fetched.Statement.{statement}
 use Rattle.inputs_export.proofs.fetched.Tie as tie
@@ -28,10 +29,15 @@ add-result-4 : tie.Need-add-result-4
 add-result-4 c = let b : Bounded (Found (c .before .before .i .given .0 .0)) = rw (c .before .before .i .given .1) at (c .before .before .before .before .fetch .ensures .1) in omega arith
 
 returns : tie.Need-returns
-returns c = rw (← c .before .before .fetch .ensures .0, c .enum-told .given .1)
+returns c =
+    let e = c .before .before .fetch .ensures in
+    (rw (← e .0, c .enum-told .given .1), record { fetched = Nothing; number = refl; says = rw (c .enum-told .given .1) at (e .2) })
 
 returns-2 : tie.Need-returns-2
-returns-2 c = rw (← c .before .before .before .before .fetch .ensures .0, c .before .before .i .given .1)
+returns-2 c =
+    let e = c .before .before .before .before .fetch .ensures in
+    let i = c .before .before .i .given in
+    (rw (← e .0, i .1), record { fetched = Found (i .0 .0); number = refl; says = rw (i .1) at (e .2) })
 
 pub fetched-spec : {M : Type 1} → statement M
 fetched-spec =
