@@ -36,6 +36,11 @@ imageVerdict img = imageSaid (imageOf img)
 abbrev pub pcVerdict : ℕ → Verdict
 pcVerdict pc = cond (eqb (pc % 2) 0) Accepted (Refused OddPc)
 
+-- the first rule at fault
+abbrev pub andThen : Verdict → Verdict → Verdict
+andThen Accepted v = v
+andThen (Refused r) v = Refused r
+
 -- 5 and 6, of a window that rule 1 accepts
 abbrev pub listsSaid : ListEnd → Verdict
 listsSaid list.Whole = Accepted
@@ -43,12 +48,7 @@ listsSaid list.LinkOutside = Refused LinkOutside
 listsSaid list.MetAgain = Refused MetAgain
 
 abbrev pub listsVerdict : Memory → ℕ → ℕ → Verdict
-listsVerdict m fcx pcxi = cond (windowHolds (m .base) (length (m .bytes))) (listsSaid (listsOf m fcx pcxi)) (Refused Window)
-
--- the first rule at fault
-abbrev pub andThen : Verdict → Verdict → Verdict
-andThen Accepted v = v
-andThen (Refused r) v = Refused r
+listsVerdict m fcx pcxi = andThen (windowVerdict m) (listsSaid (listsOf m fcx pcxi))
 
 -- what a step, or a run from a given state, is tried with
 unfoldable pub stepVerdict : Memory → List ℕ → ℕ → Verdict

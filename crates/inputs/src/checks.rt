@@ -74,10 +74,10 @@ pub fn check_lists(base: Address, window: &[u8], fcx: u32, pcxi: u32) -> Verdict
     ensures { λ r. ⌜ (r ≡ listsVerdict (memory (base .0) (now (window .entry))) fcx pcxi) × Exactly (ListsSay (memory (base .0) (now (window .entry))) fcx pcxi) r ⌝ }
     ensures unchanged { λ _. ⌜ now (window .exit) ≡ now (window .entry) ⌝ }
 {
-    if window_holds(base, window.len()) {
-        return try_lists(base, window, fcx, pcxi);
+    match check_window(base, window) {
+        Verdict::Refused(r) => Verdict::Refused(r),
+        Verdict::Accepted => try_lists(base, window, fcx, pcxi),
     }
-    Verdict::Refused(Refusal::Window)
 }
 
 fn try_lists(base: Address, window: &[u8], fcx: u32, pcxi: u32) -> Verdict
