@@ -4,7 +4,7 @@ use Prim.Native.Nat.{ℕ, _+_, _-_, _≤_, _<_}
 use native.Mathlib.Omega.{arith}
 use mathlib.Core.Path.{_≡_, refl}
 use mathlib.Core.Bool.{Bool, true, false, cond}
-use Rattle.walk.specs.Walk.{Onward}
+use Rattle.walk.specs.Blocks.{Onward}
 use Rattle.walk.specs.declared.blocks.Walk.{Walk}
 
 abbrev pub left : Walk → ℕ

@@ -2,4 +2,5 @@
 pub mod Texts
 pub mod Starts
 pub mod Walks
+pub mod Wholes
 pub mod Promises

@@ -1,10 +1,11 @@
--- Blocks: the last one of a walk, and one that others follow.
+-- What a function leaves is its block in the buffer, with the promises that go with it.
 -- Assumes nothing.
-use Prim.Native.Nat.{ℕ, _-_, _^_, _≤_, _<_}
+use Prim.Native.Nat.{ℕ, _^_, _≤_, _<_}
 use native.Mathlib.Omega.{arith}
-use mathlib.Core.Path.{_≡_, refl, sym, _∙_}
-use mathlib.Core.Bool.{true, false}
-use mathlib.Core.List.{List, append-nil, _++_}
+use native.Mathlib.Nat.{zero-add}
+use mathlib.Core.Path.{_≡_, refl, sym, ap, _∙_}
+use mathlib.Core.Bool.{Bool, true, false}
+use mathlib.Core.List.{List, _++_}
 use lib.ListN.{length, take, replicate}
 use mir.Syntax.{w8}
 use mir.Val.{Val}
@@ -13,7 +14,6 @@ use denote.Plain.{UInt}
 use denote.Array.{Array}
 use borrow.Author.Tests.{lt-ltb, le-ltb}
 use Rattle.words.proofs.Truth.{never}
-use Rattle.memory.specs.Memory.{memory}
 use Rattle.registers.specs.Registers.{pc, fcx, pcxi}
 use Rattle.registers.specs.declared.Registers.{Registers}
 use Rattle.inputs.specs.Checks.{andThen, stepVerdict, startVerdict}
@@ -23,60 +23,89 @@ use Rattle.inputs.specs.declared.verdict.Verdict.the-variants.{Accepted, Refuse
 use Rattle.machine.specs.Inner.{Ready}
 use Rattle.decisions.specs.Valid.{Bytes}
 use Rattle.decisions.proofs.Owned.{array-each, field-long}
-use Rattle.walk.specs.Start.{startBytes, startRegisters}
+use Rattle.walk.specs.Start.{windowOf, startBytes, startRegisters}
 use Rattle.walk.specs.Text.{headerText, refusedOf, longText}
-use Rattle.walk.specs.Walk.{walkFrom, walkOf, restOf, Block, Onward}
+use Rattle.walk.specs.Written.{Written}
+use Rattle.walk.specs.Walk.{longest, allSteps, walkOf}
+use Rattle.walk.specs.Blocks.{Block, standing, block, left, placed, beginOf, goOnOf, restOf, Part, Onward}
 use Rattle.walk.specs.declared.blocks.Walk.{Walk}
+use Rattle.walk.proofs.Texts.{front}
+use Rattle.walk.proofs.Wholes.{with-rest, begin-whole, next-whole}
+use Rattle.walk.proofs.Walks.{Done}
 use Rattle.walk.proofs.blocks.Walk as row
 
-abbrev pub dueOf : List ℕ → Walk → List ℕ
-dueOf img w = walkFrom (100000 - w .made) img (w .made) (w .registers) (w .requests) (memory 0xD000_0000 (w .window))
+abbrev pub Told : Block → List ℕ → List ℕ → Walk → List ℕ → List ℕ → Type 0
+Told b due img w out₀ out = (left w out ≡ placed b out₀) × Part due img w out
 
-pub rest-due : (img : List ℕ) (w : Walk) → w .over ≡ false → restOf img w ≡ dueOf img w
-unfolding restOf
-rest-due img w e = rw e
+module _ (img : List ℕ) {w : List ℕ} {r : Registers} {xs : List ℕ} {made : ℕ} {over : Bool} {text : List ℕ} {b : Block} (is : b ≡ block w r xs made over text) {out₀ out : List ℕ} {most at : ℕ} (k : Written out₀ 0 text most out at) where
+  at-end : at ≡ length text
+  at-end = k .ends ∙ zero-add (length text)
 
--- of a walk that is over nothing is left
-pub block-last : (due img : List ℕ) (w : Walk) (out : List ℕ) → w .over ≡ true → w .len ≤ length out → take (w .len) out ≡ due → Block due img w out
-unfolding restOf
-block-last due img w out e l t = record { bytes = rw (e, append-nil) t; fits = l; ready = λ f. absurd (never (sym e ∙ f)) }
+  abbrev here : Walk
+  here = standing w r xs made over at
 
-pub next-last : (img : List ℕ) (v w : Walk) (out : List ℕ) → v .over ≡ false → w .over ≡ true → w .len ≤ length out → take (w .len) out ≡ dueOf img v → Block (restOf img v) img w out × Onward v w
-next-last img v w out f e l t = (block-last (restOf img v) img w out e l (t ∙ sym (rest-due img v f)), record { more = λ g. absurd (never (sym e ∙ g)); most = λ g. absurd (never (sym e ∙ g)) })
-
--- of one that is not, what the steps print
-pub block-more : (due img : List ℕ) (w : Walk) (out : List ℕ) → w .over ≡ false → w .len ≤ length out → take (w .len) out ++ dueOf img w ≡ due → Ready img (w .registers) (memory 0xD000_0000 (w .window)) → Block due img w out
-block-more due img w out e l t y = record { bytes = rw (rest-due img w e) t; fits = l; ready = λ f. y }
-
-pub next-more : (img : List ℕ) (v w : Walk) (out : List ℕ) → v .over ≡ false → w .over ≡ false → w .len ≤ length out → take (w .len) out ++ dueOf img w ≡ dueOf img v → Ready img (w .registers) (memory 0xD000_0000 (w .window))
-    → v .made < w .made → w .made ≤ 100000 → Block (restOf img v) img w out × Onward v w
-next-more img v w out f e l t y h k = (block-more (restOf img v) img w out e l (t ∙ sym (rest-due img v f)) y, record { more = λ g. h; most = λ g. k })
+  pub tells : (due : List ℕ) → with-rest img b ≡ due → (over ≡ false → Ready img r (windowOf w)) → Told b due img here out₀ out
+  tells due e y =
+      let f : with-rest img (block w r xs made over text) ≡ due = rw is at e in
+      (rw (is, at-end, k .bytes), record { bytes = rw (front k, at-end) f; fits = k .fits; ready = y })
 
 -- ---- the first block
 accepted-first : (v u : Verdict) → andThen v u ≡ Accepted → v ≡ Accepted
 accepted-first Accepted u e = refl
 accepted-first (Refused x) u e = e
 
-module _ (img : List ℕ) where
-  abbrev verdictFor : List ℕ → Registers → Verdict
-  verdictFor w r = startVerdict (memory 0xD000_0000 w) img (pc r) (fcx r) (pcxi r)
+module _ (img w : List ℕ) (r : Registers) (f : w ≡ startBytes) (e : r ≡ startRegisters img) where
+  abbrev start : Bool → List ℕ → Block
+  start over text = block w r (replicate 16 0) 0 over text
 
-  pub walk-long : 65536 < length img → walkOf img ≡ longText
-  unfolding walkOf
-  walk-long h = rw (lt-ltb 65536 (length img) h)
+  abbrev verdict : Verdict
+  verdict = startVerdict (windowOf w) img (pc r) (fcx r) (pcxi r)
 
-  module _ (w : List ℕ) (r : Registers) (f : w ≡ startBytes) (e : r ≡ startRegisters img) (h : length img ≤ 65536) where
-    pub walk-refused : (x : Refusal) → verdictFor w r ≡ Refused x → walkOf img ≡ refusedOf x
-    unfolding walkOf
-    walk-refused x g = let k = rw (f, e) at g in rw (le-ltb 65536 (length img) h, k)
+  begin-long : longest < length img → beginOf img ≡ start true longText
+  unfolding beginOf
+  begin-long h = rw (lt-ltb longest (length img) h, e, f)
 
-    pub walk-accepted : verdictFor w r ≡ Accepted → walkOf img ≡ headerText ++ walkFrom 100000 img 0 r (replicate 16 0) (memory 0xD000_0000 w)
-    unfolding walkOf
-    walk-accepted g = let k = rw (f, e) at g in rw (le-ltb 65536 (length img) h, k, e, f)
+  begin-refused : length img ≤ longest → (x : Refusal) → verdict ≡ Refused x → beginOf img ≡ start true (refusedOf x)
+  unfolding beginOf
+  begin-refused h x g = let k = rw (f, e) at g in rw (le-ltb longest (length img) h, k, e, f)
 
-  pub start-step : (w : List ℕ) (r : Registers) → verdictFor w r ≡ Accepted → stepVerdict (memory 0xD000_0000 w) img (pc r) ≡ Accepted
+  begin-accepted : length img ≤ longest → verdict ≡ Accepted → beginOf img ≡ start false headerText
+  unfolding beginOf
+  begin-accepted h g = let k = rw (f, e) at g in rw (le-ltb longest (length img) h, k, e, f)
+
+  pub start-step : verdict ≡ Accepted → stepVerdict (windowOf w) img (pc r) ≡ Accepted
   unfolding startVerdict
-  start-step w r g = accepted-first _ _ g
+  start-step g = accepted-first _ _ g
+
+  abbrev Begun : Bool → List ℕ → List ℕ → ℕ → Type 0
+  Begun over out₀ out at = Told (beginOf img) (walkOf img) img (standing w r (replicate 16 0) 0 over at) out₀ out
+
+  module _ {out₀ out : List ℕ} {most at : ℕ} where
+    pub begun-long : longest < length img → Written out₀ 0 longText most out at → Begun true out₀ out at
+    begun-long h k = tells img (begin-long h) k _ (begin-whole img) (λ n. absurd (never n))
+
+    pub begun-refused : length img ≤ longest → (x : Refusal) → verdict ≡ Refused x → Written out₀ 0 (refusedOf x) most out at → Begun true out₀ out at
+    begun-refused h x g k = tells img (begin-refused h x g) k _ (begin-whole img) (λ n. absurd (never n))
+
+    pub begun-accepted : length img ≤ longest → verdict ≡ Accepted → Written out₀ 0 headerText most out at → Ready img r (windowOf w) → Begun false out₀ out at
+    begun-accepted h g k y = tells img (begin-accepted h g) k _ (begin-whole img) (λ n. y)
+
+-- ---- the next one
+abbrev pub Gone : List ℕ → Walk → Walk → List ℕ → List ℕ → Type 0
+Gone img v w out₀ out = (left w out ≡ placed (goOnOf img v) out₀) × (Part (restOf img v) img w out × Onward v w)
+
+module _ (img : List ℕ) (v : Walk) (more : v .over ≡ false) {out₀ out : List ℕ} {made : ℕ} {over : Bool} {r : Registers} {xs w : List ℕ} {at : ℕ} (d : Done img (v .made) (v .registers) (v .requests) (v .window) out₀ out made over r xs w at) where
+  is-next : goOnOf img v ≡ block w r xs made over (d .text)
+  unfolding goOnOf
+  is-next = d .is
+
+  pub goes : (over ≡ false → Ready img r (windowOf w)) → (over ≡ false → v .made < made) → (over ≡ false → made ≤ allSteps) → Gone img v (standing w r xs made over at) out₀ out
+  goes y h l = let t = tells img is-next (d .wrote) _ (next-whole img v more) y in (t .0, (t .1, record { more = h; most = l }))
+
+-- of a walk that is over nothing more is asked
+pub goes-last : (img : List ℕ) (v : Walk) → v .over ≡ false → {out₀ out : List ℕ} {made : ℕ} {r : Registers} {xs w : List ℕ} {at : ℕ} → Done img (v .made) (v .registers) (v .requests) (v .window) out₀ out made true r xs w at
+    → Gone img v (standing w r xs made true at) out₀ out
+goes-last img v more d = goes img v more d (λ n. absurd (never n)) (λ n. absurd (never n)) (λ n. absurd (never n))
 
 -- ---- the window as an array of bytes
 byte : (v : ℕ) (us : List Val) → Is (UInt w8) v us → v < 2 ^ 8

@@ -3,3 +3,4 @@ pub mod Start
 pub mod Text
 pub mod Written
 pub mod Walk
+pub mod Blocks

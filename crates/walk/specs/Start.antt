@@ -6,8 +6,10 @@ use lib.ListN.{length, replicate}
 use lib.Dec.{ltb, leb}
 use Rattle.memory.specs.Word.{wordAt, putWord}
 use Rattle.memory.specs.Memory.{Memory, memory}
-use Rattle.registers.specs.Registers.{registers}
+use Rattle.registers.specs.Registers.{registers, pc, fcx, pcxi}
 use Rattle.registers.specs.declared.Registers.{Registers}
+use Rattle.inputs.specs.Checks.{startVerdict}
+use Rattle.inputs.specs.declared.verdict.Verdict.{Verdict}
 use Rattle.protection.specs.declared.range.Range.{Range}
 
 -- area k's first word is the link of the next area; the last one's is 0
@@ -22,8 +24,9 @@ linked (suc k) = putWord (linked k) (64 * k) (linkAfter k)
 unfoldable pub startBytes : List ℕ
 startBytes = linked 64
 
-abbrev pub startMemory : Memory
-startMemory = memory 0xD000_0000 startBytes
+-- the window of these bytes, at its address
+abbrev pub windowOf : List ℕ → Memory
+windowOf bytes = memory 0xD000_0000 bytes
 
 -- the first load address: the image's second word (an image without one is refused by rule 2)
 unfoldable pub firstAddress : List ℕ → ℕ
@@ -33,6 +36,10 @@ firstAddress img = cond (leb 8 (length img)) (wordAt img 4) 0
 unfoldable pub startRegisters : List ℕ → Registers
 startRegisters img =
     registers (replicate 16 0) (replicate 16 0) (firstAddress img ∷ 0xB80 ∷ 0 ∷ 0xD_0000 ∷ 0 ∷ 0 ∷ 0 ∷ 0 ∷ 0x8001_0000 ∷ 0 ∷ [])
+
+-- the six rules of a start, tried with these
+abbrev pub startVerdictOf : List ℕ → Verdict
+startVerdictOf img = let r = startRegisters img in startVerdict (windowOf startBytes) img (pc r) (fcx r) (pcxi r)
 
 unfoldable pub noRanges : List Range
 noRanges = replicate 32 (record { lower = 0; upper = 0; mode = 0 })

@@ -1,12 +1,15 @@
 -- A text written into a buffer.
 use Prim.Native.Nat.{ℕ, _+_, _≤_}
 use mathlib.Core.Path.{_≡_}
-use mathlib.Core.List.{List, _++_}
-use lib.ListN.{length, take}
+use mathlib.Core.List.{List}
+use lib.ListN.{length}
+use lib.Seq.{sets}
 
--- the text of at most `most` bytes follows the first `at` bytes of the buffer, and ends at `end`
+-- the text of at most `most` bytes stands in the buffer from `at` to `end`, and all else is as it was
 pub record Written (before : List ℕ) (at : ℕ) (text : List ℕ) (most : ℕ) (after : List ℕ) (end : ℕ) : Type 0 where
-  pub bytes : take end after ≡ take at before ++ text
+  pub bytes : after ≡ sets before at text
+  pub ends : end ≡ at + length text
+  -- what follows, for a caller's sums
   pub size : length after ≡ length before
   pub room : end ≤ at + most
   pub fits : end ≤ length after

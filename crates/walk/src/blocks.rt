@@ -21,9 +21,10 @@ use registers::PCXI;
 use registers::Registers;
 ghost use mathlib.Core.Path.{_≡_};
 ghost use mathlib.Core.Bool.{false};
-ghost use Rattle.memory.specs.Memory.{memory};
 ghost use Rattle.machine.specs.Inner.{Ready};
-ghost use Rattle.walk.specs.Walk.{isTrap, walkOf, restOf, Block, Onward};
+ghost use Rattle.walk.specs.Start.{windowOf};
+ghost use Rattle.walk.specs.Walk.{isTrap, walkOf};
+ghost use Rattle.walk.specs.Blocks.{left, placed, beginOf, goOnOf, restOf, Part, Onward};
 
 // Where a walk stands after a block of len bytes.
 pub struct Walk {
@@ -52,7 +53,8 @@ fn is_trap(e: Event) -> bool
 
 // The first block: the header, or all that an image of another kind prints.
 pub fn begin(image: &[u8], out: &mut [u8; 65536]) -> Walk
-    ensures { λ r. ⌜ Block (walkOf (now (image .entry))) (now (image .entry)) r (now (out .exit)) ⌝ }
+    ensures { λ r. ⌜ left r (now (out .exit)) ≡ placed (beginOf (now (image .entry))) (now (out .entry)) ⌝ }
+    ensures { λ r. ⌜ Part (walkOf (now (image .entry))) (now (image .entry)) r (now (out .exit)) ⌝ }
 {
     let window = start_window();
     let registers = start_registers(image);
@@ -78,34 +80,34 @@ pub fn begin(image: &[u8], out: &mut [u8; 65536]) -> Walk
     ) {
         Verdict::Refused(x) => {
             let refused = put_refused(out, 0, x);
-            Walk {
+            return Walk {
                 window: window,
                 registers: registers,
                 requests: requests,
                 made: 0,
                 over: true,
                 len: refused,
-            }
+            };
         }
-        Verdict::Accepted => {
-            let header = put_header(out, 0);
-            Walk {
-                window: window,
-                registers: registers,
-                requests: requests,
-                made: 0,
-                over: false,
-                len: header,
-            }
-        }
+        Verdict::Accepted => {}
+    }
+    let header = put_header(out, 0);
+    Walk {
+        window: window,
+        registers: registers,
+        requests: requests,
+        made: 0,
+        over: false,
+        len: header,
     }
 }
 
 // The next block of a walk that is not over.
 pub fn go_on(image: &[u8], w: Walk, out: &mut [u8; 65536]) -> Walk
-    requires { ⌜ Ready (now image) (w .registers) (memory 0xD000_0000 (w .window)) ⌝ }
+    requires { ⌜ Ready (now image) (w .registers) (windowOf (w .window)) ⌝ }
     requires { ⌜ w .over ≡ false ⌝ }
-    ensures { λ r. ⌜ Block (restOf (now (image .entry)) w) (now (image .entry)) r (now (out .exit)) ⌝ }
+    ensures { λ r. ⌜ left r (now (out .exit)) ≡ placed (goOnOf (now (image .entry)) w) (now (out .entry)) ⌝ }
+    ensures { λ r. ⌜ Part (restOf (now (image .entry)) w) (now (image .entry)) r (now (out .exit)) ⌝ }
     ensures { λ r. ⌜ Onward w r ⌝ }
 {
     let ranges = no_ranges();

@@ -5,11 +5,23 @@ use memory::put_word;
 use memory::word_at;
 use protection::range::Range;
 use registers::Registers;
+ghost use Prim.Native.Nat.{ℕ, _+_};
 ghost use mathlib.Core.Path.{_≡_};
+ghost use mathlib.Core.List.{List};
+ghost use lib.ListN.{length, replicate, take};
 ghost use Rattle.walk.specs.Start.{linkAfter, startBytes, firstAddress, startRegisters, noRanges};
+ghost use Rattle.walk.specs.Walk.{longest, walkOf};
 
 // The address of the window.
 pub const BASE: Address = Address(0xD000_0000);
+
+// Room for the longest image and one byte more: of a longer one as much as fits here prints what the whole prints.
+pub fn input_buffer() -> [u8; 65537]
+    ensures { λ r. ⌜ r ≡ replicate (longest + 1) 0 ⌝ }
+    ensures { λ r. ⌜ ((given : List ℕ) → walkOf (take (length r) given) ≡ walkOf given) ⌝ }
+{
+    [0; 65537]
+}
 
 // The link in area k's first word.
 fn link_after(k: usize) -> u32
