@@ -4,16 +4,17 @@ use libc::STDIN_FILENO;
 use libc::STDOUT_FILENO;
 use walk::blocks::begin;
 use walk::blocks::go_on;
+use walk::start::image_in;
 use walk::start::input_buffer;
 
-// No contract can say what is read or written. So these four lines of calls are taken on trust, and tests/pool runs them: that
-// `read_full` reads all of standard input as far as the buffer goes, that the bytes read are the image, that `write_all` writes
-// what it is lent, and that each block's bytes are written once, in order, until the walk is over. What the blocks hold, and that
-// bytes past the buffer would change nothing, is proved.
+// No contract can say what is read or written. Taken on trust, and held by tests/pool alone: that `read_full` fills the buffer from
+// standard input as far as both go and answers how many bytes came, that `write_all` writes what it is lent, and that the two
+// functions below call them so: the whole buffer is lent, and each block's bytes are written once, in order, to the walk's end.
+// Proved is what the blocks hold, that the walk ends, and that the input past the buffer changes nothing.
 fn main() {
     let mut input = input_buffer();
     let n = io::read_full(STDIN_FILENO, &mut input);
-    print_walk(&input[..n]);
+    print_walk(image_in(&input, n));
 }
 
 fn print_walk(image: &[u8]) {

@@ -29,7 +29,7 @@ standing w r xs made over len = record { window = w; registers = r; requests = x
 abbrev pub block : List ℕ → Registers → List ℕ → ℕ → Bool → List ℕ → Block
 block w r xs made over text = record { walk = standing w r xs made over (length text); text = text }
 
--- what a function leaves: the walk, and the buffer with the text at its front and all past it as it was
+-- what a function leaves: the walk, and the buffer with the text set byte by byte at its front and all past it as it was
 pub record Left : Type 0 where
   pub walk : Walk
   pub out : List ℕ
@@ -74,7 +74,7 @@ blockFrom (suc n) img made r xs w text =
 unfoldable pub goOnOf : List ℕ → Walk → Block
 goOnOf img w = blockFrom (allSteps - w .made) img (w .made) (w .registers) (w .requests) (w .window) []
 
--- ---- the blocks together
+-- ---- what follows of the blocks together
 -- what is still to be printed after a block
 unfoldable pub restOf : List ℕ → Walk → List ℕ
 restOf img w = cond (w .over) [] (walkFrom (allSteps - w .made) img (w .made) (w .registers) (w .requests) (w .window))

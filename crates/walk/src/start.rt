@@ -1,11 +1,11 @@
-// The start of a walk: the areas of the window linked ascending, and the registers.
+// The start of a walk: the image's buffer, the areas of the window linked ascending, and the registers.
 
 use areas::link::Address;
 use memory::put_word;
 use memory::word_at;
 use protection::range::Range;
 use registers::Registers;
-ghost use Prim.Native.Nat.{ℕ, _+_};
+ghost use Prim.Native.Nat.{ℕ, _+_, _≤_};
 ghost use mathlib.Core.Path.{_≡_};
 ghost use mathlib.Core.List.{List};
 ghost use lib.ListN.{length, replicate, take};
@@ -15,12 +15,20 @@ ghost use Rattle.walk.specs.Walk.{longest, walkOf};
 // The address of the window.
 pub const BASE: Address = Address(0xD000_0000);
 
-// Room for the longest image and one byte more: of a longer one as much as fits here prints what the whole prints.
+// Room for the longest image and one byte more. Of any input, as much of it as fits here prints what the whole prints.
 pub fn input_buffer() -> [u8; 65537]
     ensures { λ r. ⌜ r ≡ replicate (longest + 1) 0 ⌝ }
     ensures { λ r. ⌜ ((given : List ℕ) → walkOf (take (length r) given) ≡ walkOf given) ⌝ }
 {
     [0; 65537]
+}
+
+// The image in such a buffer, and in no shorter one: the n bytes that were read into it.
+pub fn image_in(input: &[u8], n: usize) -> &[u8]
+    requires { ⌜ (length (now input) ≡ longest + 1) × (n ≤ length (now input)) ⌝ }
+    ensures { λ r. ⌜ now r ≡ take n (now (input .entry)) ⌝ }
+{
+    &input[..n]
 }
 
 // The link in area k's first word.

@@ -1,7 +1,7 @@
 -- `walk::blocks::go_on` meets its contract. Assumes nothing.
 use borrow.Author.Needs.{needs}
 use Prim.Native.Nat.{_-_}
-use mathlib.Core.Path.{refl, sym, _∙_}
+use mathlib.Core.Path.{sym, _∙_}
 use native.Mathlib.Omega.{arith}
 use Rattle.walk.proofs.Walks.{Turn, turn-start, filled, on, trapped, stopped, refused, ended}
 use Rattle.walk.proofs.Promises.{goes, goes-last, window-long}

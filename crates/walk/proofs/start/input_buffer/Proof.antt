@@ -1,7 +1,7 @@
 -- `walk::start::input_buffer` meets its contract. Assumes nothing.
-use mathlib.Core.Path.{_≡_, refl, ap, _∙_}
+use mathlib.Core.Path.{refl, ap, _∙_}
 use Prim.Native.Nat.{ℕ, _+_}
-use lib.ListN.{replicate, take, length-replicate}
+use lib.ListN.{take, length-replicate}
 use Rattle.walk.specs.Walk.{longest, walkOf}
 use Rattle.walk.proofs.Wholes.{cut}
 use Rattle.walk.proofs.start.input_buffer.Statement.{statement}
