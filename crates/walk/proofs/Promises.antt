@@ -34,6 +34,7 @@ use Rattle.walk.proofs.Wholes.{with-rest, begin-whole, next-whole}
 use Rattle.walk.proofs.Walks.{Done}
 use Rattle.walk.proofs.blocks.Walk as row
 
+-- ---- any block: left as defined, and a part of what is due
 abbrev pub Told : Block → List ℕ → List ℕ → Walk → List ℕ → List ℕ → Type 0
 Told b due img w out₀ out = (left w out ≡ placed b out₀) × Part due img w out
 
@@ -91,6 +92,7 @@ module _ (img w : List ℕ) (r : Registers) (f : w ≡ startBytes) (e : r ≡ st
     begun-accepted h g k y = tells img (begin-accepted h g) k _ (begin-whole img) (λ n. y)
 
 -- ---- the next one
+-- what `go_on` promises, in its clauses' order
 abbrev pub Gone : List ℕ → Walk → Walk → List ℕ → List ℕ → Type 0
 Gone img v w out₀ out = (left w out ≡ placed (goOnOf img v) out₀) × (Part (restOf img v) img w out × Onward v w)
 
