@@ -1,7 +1,8 @@
 //! The header and the reference page name every number, as document 01 has it, and no other.
 
-use deqbaryn_tests::model::core::NAMES as CORE;
-use deqbaryn_tests::model::event::{SYS_CLASS, TRAPS, TRAP_NAMES};
+use deqbaryn_tests::host::start;
+use deqbaryn_tests::model::core::{NAMES as CORE, RECORD};
+use deqbaryn_tests::model::event::{answer, SYS_CLASS, TRAPS, TRAP_NAMES};
 use deqbaryn_tests::model::operations::NAMES;
 use deqbaryn_tests::model::system::offset;
 use std::collections::BTreeMap;
@@ -111,7 +112,7 @@ fn the_page_has_every_number_of_the_header() {
         }
     }
     for (name, kind) in members("kind", "") {
-        if kind < 2 || kind > 4 {
+        if !(2..=4).contains(&kind) {
             expected.insert(name, (kind, 0, 0));
         }
     }
@@ -119,11 +120,14 @@ fn the_page_has_every_number_of_the_header() {
 }
 
 #[test]
-fn the_page_s_worked_image_is_whole() {
-    let mut bytes = 0;
-    for cells in rows().filter(|cells| cells.len() == 3 && cells[1].starts_with('`') && cells[0].parse::<usize>().is_ok()) {
-        assert_eq!(cells[0].parse(), Ok(bytes), "{cells:?}");
-        bytes += cells[1].trim_matches('`').split(' ').map(|b| u8::from_str_radix(b, 16).unwrap()).count();
+fn the_page_s_worked_image_is_accepted() {
+    let mut image: Vec<u8> = Vec::new();
+    for cells in rows().filter(|cells| cells.len() == 3 && cells[1].starts_with('`')) {
+        assert_eq!(cells[0].parse(), Ok(image.len()), "{cells:?}");
+        image.extend(cells[1].trim_matches('`').split(' ').map(|b| u8::from_str_radix(b, 16).unwrap()));
     }
-    assert_eq!(bytes, 92);
+    assert_eq!(image.len(), 92);
+    let mut core = [0; RECORD];
+    core[128..132].copy_from_slice(&0x8000_0000u32.to_le_bytes());
+    assert_eq!(start(&core, 0xD000_0000, &[0; 64], &image), answer::ACCEPTED);
 }
