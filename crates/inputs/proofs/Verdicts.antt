@@ -38,15 +38,15 @@ module _ (m : Memory) (img : List ℕ) (pc : ℕ) where
   unfolding stepVerdict
   window-passed e = rw e
 
-  pc-says : WindowOf m → ImageRight img → StepSays m img pc (pcVerdict pc)
-  pc-says w i = go (ℕ-discrete (pc % 2) 0)
+  pc-verdict : WindowOf m → ImageRight img → StepSays m img pc (pcVerdict pc)
+  pc-verdict w i = go (ℕ-discrete (pc % 2) 0)
     where
       go : Dec (Even pc) → StepSays m img pc (pcVerdict pc)
       go (yes e) = rw (eq-eqb (pc % 2) 0 e) (record { window = w; image = i; even = e })
       go (no d) = rw (ne-eqb (pc % 2) 0 d) (w, i, d)
 
   image-verdict : WindowOf m → (c : ImageCheck) → ImageSays img c → StepSays m img pc (andThen (imageSaid c) (pcVerdict pc))
-  image-verdict w image.Holds s = pc-says w s
+  image-verdict w image.Holds s = pc-verdict w s
   image-verdict w (image.Table entry) s = (w, s)
   image-verdict w (image.Record index) s = (w, s)
 
@@ -107,19 +107,19 @@ module _ (m : Memory) (img : List ℕ) (pc fcx pcxi : ℕ) where
           rw (start-passed e)
           (lists-verdict s (listsOf m fcx pcxi) (lists-come m (s .window .most) fcx pcxi))
 
-  lists-is : Ready m img pc → (e : ListEnd) → ListsCome m fcx pcxi e → startVerdict m img pc fcx pcxi ≡ listsSaid e
-  lists-is r e c =
+  lists-end : Ready m img pc → (e : ListEnd) → ListsCome m fcx pcxi e → startVerdict m img pc fcx pcxi ≡ listsSaid e
+  lists-end r e c =
       start-passed (step-is m img pc Accepted r) ∙ ap listsSaid (end-is m fcx pcxi (r .window) e c)
 
   -- ---- and no other verdict is
   start-is : (v : Verdict) → StartSays m img pc fcx pcxi v → startVerdict m img pc fcx pcxi ≡ v
-  start-is Accepted (r, s) = lists-is r list.Whole (of-sound m (r .window .most) fcx pcxi s)
+  start-is Accepted (r, s) = lists-end r list.Whole (of-sound m (r .window .most) fcx pcxi s)
   start-is (Refused Window) d = start-refused Window (step-is m img pc (Refused Window) d)
   start-is (Refused (Table entry)) s = start-refused (Table entry) (step-is m img pc (Refused (Table entry)) s)
   start-is (Refused (Record index)) s = start-refused (Record index) (step-is m img pc (Refused (Record index)) s)
   start-is (Refused OddPc) s = start-refused OddPc (step-is m img pc (Refused OddPc) s)
-  start-is (Refused LinkOutside) (r, c) = lists-is r list.LinkOutside c
-  start-is (Refused MetAgain) (r, c) = lists-is r list.MetAgain c
+  start-is (Refused LinkOutside) (r, c) = lists-end r list.LinkOutside c
+  start-is (Refused MetAgain) (r, c) = lists-end r list.MetAgain c
 
   pub start-exactly : (r : Verdict) → r ≡ startVerdict m img pc fcx pcxi → (r ≡ startVerdict m img pc fcx pcxi) × Exactly (StartSays m img pc fcx pcxi) r
   start-exactly = exactly (StartSays m img pc fcx pcxi) (startVerdict m img pc fcx pcxi) start-says (λ v s. sym (start-is v s))
