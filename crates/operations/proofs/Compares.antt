@@ -1,14 +1,14 @@
 -- The operations that compare two data registers, by number.
 -- Assumes nothing.
-use Prim.Native.Nat.{ℕ, _≤_, _<_}
+use Prim.Native.Nat.{ℕ, _≤_}
 use native.Mathlib.Omega.{arith}
 use native.Mathlib.Nat.{lt-of-not-le}
 use native.Mathlib.Decide.{decLe}
-use mathlib.Core.Path.{_≡_, refl, ap, sym, _∙_}
+use mathlib.Core.Path.{_≡_, refl, ap, sym}
 use mathlib.Core.Bool.{Bool, true, false, cond, not, _&&_}
 use lib.ListN.{List·getD-eq-default}
 use lib.Dec.{ltb, leb}
-use borrow.Author.Tests.{le-ltb, lt-leb, le-leb}
+use borrow.Author.Tests.{le-ltb, le-leb}
 use Rattle.words.proofs.Truth.{never}
 use Rattle.operations.specs.Operations.{operations, operationOf, compares}
 use Rattle.operations.specs.declared.Operation.{Operation}

@@ -17,7 +17,6 @@ use registers::PC;
 use registers::PSW;
 use registers::SYSCON;
 use registers::plus;
-ghost use mathlib.Core.Path.{_≡_};
 ghost use mathlib.Core.List.{List};
 ghost use Prim.Native.Nat.{ℕ, _+_, _≤_};
 ghost use lib.ListN.{length};

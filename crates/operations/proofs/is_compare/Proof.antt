@@ -1,5 +1,4 @@
 -- `operations::is_compare` meets its contract. Assumes nothing.
-use mathlib.Core.Path.{sym}
 use borrow.Author.Tests.{lt-leb, le-leb}
 use Rattle.operations.proofs.Compares.{compares-by}
 use Rattle.operations.proofs.is_compare.Statement.{statement}
