@@ -2,6 +2,7 @@
 
 use crate::model::core::Core;
 use crate::model::event::{Event, Stop, FCD, SYS_CLASS, TRAPS};
+use crate::model::fields::request::{ENABLED, PRIORITY, REQUESTED};
 use crate::model::fields::PROTECTION_ON;
 use crate::model::operations::NAMES;
 use std::fmt;
@@ -28,7 +29,8 @@ pub struct Coverage {
     empty_runs: u64,
     runs_stopped_midway: u64,
     steps_with_protection: u64,
-    pub ties: u64,
+    /// Interrupts of a source with others of its priority number: with any, with two or more, with none next to it.
+    ties: [u64; 3],
     /// By PRS, IO, IS, GW, CDE, and by CDC.
     psw: [u64; 128],
     cdc: [u64; 128],
@@ -52,7 +54,7 @@ impl Default for Coverage {
             empty_runs: 0,
             runs_stopped_midway: 0,
             steps_with_protection: 0,
-            ties: 0,
+            ties: [0; 3],
             psw: [0; 128],
             cdc: [0; 128],
         }
@@ -88,6 +90,15 @@ impl Coverage {
         self.fcd_after[counter] += 1;
     }
 
+    /// The interrupt of a source, with those of the sixteen words.
+    pub fn interrupt(&mut self, source: usize, requests: &[u32; 16]) {
+        let alike = |k: &usize| (requests[*k] ^ requests[source]) & (ENABLED | REQUESTED | PRIORITY) == 0;
+        let others: Vec<usize> = (0..16).filter(|k| *k != source).filter(alike).collect();
+        self.ties[0] += !others.is_empty() as u64;
+        self.ties[1] += (others.len() > 1) as u64;
+        self.ties[2] += (!others.is_empty() && others.iter().all(|k| k.abs_diff(source) > 1)) as u64;
+    }
+
     /// A call's answer, as far as no step tells it.
     pub fn answer(&mut self, answer: u64) {
         match answer as u8 {
@@ -118,7 +129,9 @@ impl Coverage {
             ("run of 0 steps".into(), self.empty_runs),
             ("run stopped after a step".into(), self.runs_stopped_midway),
             ("step with protection on".into(), self.steps_with_protection),
-            ("interrupt at a tie".into(), self.ties),
+            ("interrupt at a tie".into(), self.ties[0]),
+            ("interrupt at a tie of 3".into(), self.ties[1]),
+            ("interrupt at a tie apart".into(), self.ties[2]),
         ];
         counts.extend((0..16).map(|k| (format!("interrupt of source {k}"), self.interrupts[k])));
         for trap in TRAPS {

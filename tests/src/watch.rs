@@ -4,7 +4,6 @@ use crate::book::{Book, Registers};
 use crate::coverage::Coverage;
 use crate::model::core::Core;
 use crate::model::event::{Event, Stop};
-use crate::model::fields::request::{ENABLED, PRIORITY, REQUESTED};
 use crate::model::observer::{Half, Observer};
 
 /// What came up while a book was kept.
@@ -88,9 +87,7 @@ impl Observer for &mut Watcher {
 
     fn enters(&mut self, event: Event) {
         if let Event::Interrupt { source } = event {
-            let alike = |word: u32| word & (ENABLED | REQUESTED | PRIORITY);
-            let taken = alike(self.requests[source as usize]);
-            self.coverage.ties += (self.requests.iter().filter(|r| alike(**r) == taken).count() > 1) as u64;
+            self.coverage.interrupt(source as usize, &self.requests);
         }
         self.entries.push(event);
     }

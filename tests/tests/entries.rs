@@ -27,9 +27,13 @@ fn a_trap_entry() {
     assert_eq!((w.core.a[10], w.core.pc), (0x1234, BTV + 0xC0));
 }
 
+/// An enabled request, every other bit set.
+fn asks(w: &mut Worked, source: usize, priority: u32) {
+    w.core.requests[source] = 0xFFFF_F900 | 0x600 | priority;
+}
+
 #[test]
 fn the_foremost_request() {
-    let asks = |w: &mut Worked, source: usize, priority: u32| w.core.requests[source] = 0xFFFF_F900 | 0x600 | priority;
     let mut w = one(Nop, 0);
     w.core.icr = 0x105;
     asks(&mut w, 3, 5);
@@ -42,12 +46,66 @@ fn the_foremost_request() {
     w.core.isp = 0x77;
     w.core.psw &= !0x200;
     let before = w.upper();
-    assert_eq!(w.step(), 0x0901);
+    assert_eq!(w.step(), 0x0C01);
     assert_eq!(w.area(FREE_0), before);
     assert_eq!((w.core.pc, w.core.a[11], w.core.a[10]), (0x8002_00C0, LOAD, 0x77));
     assert_eq!((w.core.psw, w.core.icr, w.core.pcxi), (0xA80, 0x006, 0x05CD_0000));
-    assert_eq!((w.core.requests[9], w.core.requests[12]), (0xFFFF_FB06, 0xFFFF_FF06));
+    assert_eq!((w.core.requests[9], w.core.requests[12]), (0xFFFF_FF06, 0xFFFF_FB06));
     assert_eq!(w.core.d[15], 0xDD0F);
+}
+
+/// Sources that ask with one priority number, at CCPN 5.
+fn tie(sources: &[usize], priority: u32) -> Worked {
+    let mut w = one(Nop, 0);
+    w.core.icr = 0x105;
+    for source in sources {
+        asks(&mut w, *source, priority);
+    }
+    w
+}
+
+#[test]
+fn of_one_priority_number_the_highest_source() {
+    // each is taken before the lower ones, and its own request alone goes
+    let all: [usize; 16] = std::array::from_fn(|source| source);
+    for sources in [&[3, 15][..], &[14, 15], &[0, 1], &[0, 7, 12], &[4, 5, 6], &all] {
+        let start = tie(sources, 6);
+        let mut requests = start.core.requests;
+        for source in sources.iter().rev() {
+            let mut w = start.clone();
+            w.core.requests = requests;
+            assert_eq!(w.step(), 1 | (*source as u64) << 8);
+            requests[*source] = 0xFFFF_FB06;
+            assert_eq!((w.core.requests, w.core.icr), (requests, 0x006));
+        }
+    }
+    // a source that is not enabled or does not ask is in no tie, and a higher number is before every tie
+    let mut w = tie(&[3, 9], 6);
+    w.core.requests[12] = 0x400 | 6;
+    w.core.requests[15] = 0x200 | 6;
+    assert_eq!(w.clone().step(), 0x0901);
+    asks(&mut w, 0, 7);
+    asks(&mut w, 1, 7);
+    assert_eq!(w.step(), 0x0101);
+}
+
+#[test]
+fn a_tie_that_waits() {
+    for priority in [0, 4, 5] {
+        tie(&[3, 15], priority).done();
+        tie(&[0, 7, 12], priority).done();
+    }
+    // number 0 stands above no CCPN
+    let mut w = tie(&[0, 3, 15], 0);
+    w.core.icr = 0x100;
+    w.done();
+    // what is above CCPN does not wait for it
+    let mut w = tie(&[3, 15], 5);
+    asks(&mut w, 2, 6);
+    assert_eq!(w.step(), 0x0201);
+    let mut w = tie(&[3, 15], 6);
+    w.core.icr = 0x005;
+    w.done();
 }
 
 #[test]
@@ -71,6 +129,12 @@ fn an_interrupt_that_cannot_save() {
     let mut w = one(Nop, 0);
     w.core.requests[4] = 0x6FF;
     w.core.fcx = 0x7770_0000;
+    w.stopped(11);
+    w.core.fcx = 0xD_0040;
+    w.stopped(12);
+    // at a tie both requests stay
+    let mut w = tie(&[3, 15], 6);
+    w.core.fcx = 0;
     w.stopped(11);
     w.core.fcx = 0xD_0040;
     w.stopped(12);

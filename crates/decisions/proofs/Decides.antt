@@ -1,12 +1,12 @@
 -- A step is what is decided, performed; and what is decided is sound.
 -- Assumes nothing.
-use Prim.Native.Nat.{ℕ, zero, suc, _+_, _-_, _%_, _^_, _≤_, _<_}
+use Prim.Native.Nat.{ℕ, _+_, _%_, _≤_}
 use native.Mathlib.Omega.{arith}
 use mathlib.Core.Path.{_≡_, refl}
-use mathlib.Core.Bool.{Bool, true, false, cond, _&&_}
+use mathlib.Core.Bool.{Bool, true, false, cond}
 use mathlib.Core.List.{List}
-use lib.ListN.{length, getD}
-use lib.Dec.{eqb, ltb}
+use lib.ListN.{length}
+use lib.Dec.{eqb}
 use Rattle.memory.specs.Memory.{Memory}
 use Rattle.registers.specs.Registers.{pc, pcxi, icr}
 use Rattle.registers.specs.declared.Registers.{Registers}
@@ -17,8 +17,8 @@ use Rattle.protection.specs.declared.range.Range.{Range}
 use Rattle.protection.specs.declared.range.Right.the-variants as right
 use Rattle.protection.specs.declared.access.Check.{Check}
 use Rattle.protection.specs.declared.access.Check.the-variants.{Passes, Fails}
-use Rattle.interrupts.specs.Sources.{best, bestOf, bestBelow, betterOf, takes}
-use Rattle.interrupts.specs.declared.Best.{Best}
+use Rattle.interrupts.specs.Sources.{bestOf, takes}
+use Rattle.interrupts.proofs.Sources.{level-byte}
 use Rattle.image.specs.Rest.{restOf}
 use Rattle.image.specs.Fetch.{instructionAt, fetchOf}
 use Rattle.image.specs.declared.fetch.Instruction.{Instruction}
@@ -37,7 +37,6 @@ use Rattle.acts.specs.declared.How.{How}
 use Rattle.acts.specs.declared.How.the-variants as how
 use Rattle.accesses.specs.Store.{sizeOf}
 use Rattle.execute.specs.Execute.{actOf, finishOf, finishDid, executeOf}
-use Rattle.fields.specs.Request.{SRC·SRPN, requests}
 use Rattle.decisions.specs.Valid.{Valid, Bytes}
 use Rattle.decisions.specs.Heads.{writesHead, fetchHeads, checkHeads, stepHeads}
 use Rattle.decisions.specs.Phases.{fetchedBy, checkedBy, instructionOf, oneOf}
@@ -111,12 +110,6 @@ module _ {img : List ℕ} (b : Bytes img) (pc : ℕ) (e : pc % 2 ≡ 0) where
   unfolding fetchOf
   fetch-decoded = either-has DecodedBy (eqb (restOf img pc .records) 0) {x = Nothing} {y = Found (instructionAt img (restOf img pc .at) pc)} tt (decoded-at _)
 
--- a priority number is a byte
-best-byte : (n : ℕ) (xs : List ℕ) → bestBelow n xs .level < 2 ^ 8
-unfolding bestBelow betterOf
-best-byte zero xs = omega arith
-best-byte (suc n) xs = either-has (λ (b : Best). b .level < 2 ^ 8) (requests (getD xs n 0) && ltb (bestBelow n xs .level) (SRC·SRPN (getD xs n 0))) {x = best n (SRC·SRPN (getD xs n 0))} {y = bestBelow n xs} (omega arith) (best-byte n xs)
-
 module _ {img : List ℕ} (bi : Bytes img) {r : Registers} (w : Valid r) (xs : List ℕ) (rs : List Range) (m : Memory) (b : Bytes (m .bytes)) where
   -- by what is fetched
   fetched-is : (f : Fetched) → DecodedBy f → fetchedBy r rs m f ≡ performedOf (fetchDecides r rs m f) r m
@@ -152,5 +145,5 @@ module _ {img : List ℕ} (bi : Bytes img) {r : Registers} (w : Valid r) (xs : L
     where
       by : (t : Bool) → DecisionSound (cond t false (checkHeads img r (checkOf (r .core) rs right.Execute (pc r))) ≡ false) r m
           (cond t (interrupting (bestOf xs)) (checkDecides img r rs m (checkOf (r .core) rs right.Execute (pc r))))
-      by true = (omega arith, interrupt-then (bestOf xs .level) (best-byte 16 xs))
+      by true = (omega arith, interrupt-then (bestOf xs .level) (level-byte xs))
       by false = checked-sound (checkOf (r .core) rs right.Execute (pc r)) (check-bytes (r .core) rs right.Execute (pc r))

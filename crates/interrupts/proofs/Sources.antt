@@ -1,70 +1,105 @@
--- The best source: the highest of those before, and then of all sixteen.
+-- The best source: what it is of the first n, and so of all sixteen.
 -- Assumes nothing.
-use Prim.Native.Nat.{ℕ, zero, suc, _+_, _≤_, _<_}
+use Prim.Native.Nat.{ℕ, zero, suc, _+_, _≤_, _<_, _^_}
 use native.Mathlib.Omega.{arith}
 use native.Mathlib.Numerals.{add-one}
 use native.Mathlib.Decide.{ℕ-discrete}
-use mathlib.Core.Path.{_≡_, refl, sym, subst, _∙_}
+use mathlib.Core.Path.{_≡_, refl, sym, ap, subst, _∙_}
 use mathlib.Core.Bool.{Bool, true, false, cond, _&&_}
 use mathlib.Core.List.{List}
+use mathlib.Core.Logic.{_⊎_, inl, inr}
 use lib.ListN.{getD}
-use lib.Dec.{ltb}
-use borrow.Author.Tests.{ltb-true, ltb-false}
+use lib.Dec.{leb}
+use borrow.Author.Tests.{leb-true, leb-false}
+use Rattle.words.specs.Exactly.{Exactly}
 use Rattle.words.proofs.Truth.{never}
+use Rattle.words.proofs.Integers.{lt-or-ge}
+use Rattle.words.proofs.Answers.{exactly}
 use Rattle.fields.specs.Request.{SRC·SRPN, requests}
-use Rattle.interrupts.specs.Sources.{best, betterOf, bestBelow, bestOf, Highest}
+use Rattle.interrupts.specs.Sources.{best, betterOf, bestBelow, bestOf, Pending, OneOf, Highest}
 use Rattle.interrupts.specs.declared.Best.{Best}
 
--- the same of the first n sources
-record HighestBelow (n : ℕ) (xs : List ℕ) (b : Best) : Type 0 where
-  above : (i : ℕ) → i < n → requests (getD xs i 0) ≡ true → SRC·SRPN (getD xs i 0) ≤ b .level
-  one : 0 < b .level → (b .source < n) × (requests (getD xs (b .source) 0) ≡ true) × (SRC·SRPN (getD xs (b .source) 0) ≡ b .level)
-  first : (i : ℕ) → i < b .source → i < n → 0 < b .level → requests (getD xs i 0) ≡ true → SRC·SRPN (getD xs i 0) < b .level
+-- what is so of the sources before and of source n is so of the first n + 1
+by-source : (n : ℕ) (xs : List ℕ) (P : ℕ → Type 0) → ((i : ℕ) → Pending n xs i → P i) → (requests (getD xs n 0) ≡ true → P n) → (i : ℕ) → Pending (suc n) xs i → P i
+by-source n xs P before here i p = by (ℕ-discrete i n)
+  where
+    by : Dec (i ≡ n) → P i
+    by (yes e) = subst P (sym e) (here (subst (λ (x : ℕ). requests (getD xs x 0) ≡ true) e (p .1)))
+    by (no d) = before i (omega (arith, p .0), p .1)
 
-module _ (n : ℕ) (xs : List ℕ) (b : Best) (h : HighestBelow n xs b) where
+module _ (n : ℕ) (xs : List ℕ) (b : Best) (h : Highest n xs b) where
   src : ℕ
   src = getD xs n 0
 
-  taken : requests src ≡ true → b .level < SRC·SRPN src → HighestBelow (suc n) xs (best n (SRC·SRPN src))
+  taken : requests src ≡ true → b .level ≤ SRC·SRPN src → Highest (suc n) xs (best n (SRC·SRPN src))
   unfolding src
   taken q l = record {
-    above = λ i k r. over i k r (ℕ-discrete i n);
-    one = λ _. (omega arith, q, refl);
-    first = λ i k _ _ r. let a = h .above i k r in omega arith;
+    one = inl ((omega arith, q), refl);
+    above = by-source n xs (λ i. SRC·SRPN (getD xs i 0) ≤ SRC·SRPN (getD xs n 0)) (λ i p. let a = h .above i p in omega arith) (λ _. omega arith);
+    after = λ i p k. absurd (omega (arith, p .0));
   }
-    where
-      over : (i : ℕ) → i < suc n → requests (getD xs i 0) ≡ true → Dec (i ≡ n) → SRC·SRPN (getD xs i 0) ≤ SRC·SRPN (getD xs n 0)
-      over i k r (yes e) = rw e (omega arith)
-      over i k r (no d) = let a = h .above i (omega arith) r in omega arith
 
-  kept : (requests src ≡ true → SRC·SRPN src ≤ b .level) → HighestBelow (suc n) xs b
+  kept : (requests src ≡ true → SRC·SRPN src < b .level) → Highest (suc n) xs b
   unfolding src
   kept q = record {
-    above = λ i k r. over i k r (ℕ-discrete i n);
-    one = λ p. let o = h .one p in (omega (arith, o .0), o .1, o .2);
-    first = λ i k m p r. let o = h .one p in h .first i k (omega (arith, o .0)) p r;
+    one = still (h .one);
+    above = by-source n xs (λ i. SRC·SRPN (getD xs i 0) ≤ b .level) (h .above) (λ r. let l = q r in omega arith);
+    after = by-source n xs (λ i. b .source < i → SRC·SRPN (getD xs i 0) < b .level) (h .after) (λ r _. q r);
   }
     where
-      over : (i : ℕ) → i < suc n → requests (getD xs i 0) ≡ true → Dec (i ≡ n) → SRC·SRPN (getD xs i 0) ≤ b .level
-      over i k r (yes e) = subst (λ (x : ℕ). SRC·SRPN (getD xs x 0) ≤ b .level) (sym e) (q (subst (λ (x : ℕ). requests (getD xs x 0) ≡ true) e r))
-      over i k r (no d) = h .above i (omega arith) r
+      still : OneOf n xs b → OneOf (suc n) xs b
+      still (inl o) = inl ((omega (arith, o .0 .0), o .0 .1), o .1)
+      still (inr o) = inr (by-source n xs (λ _. ⊥) (o .0) (λ r. let l = q r in let z = ap (λ (x : Best). x .level) (o .1) in absurd (omega arith)), o .1)
 
-  next : HighestBelow (suc n) xs (betterOf b n src)
+  next : Highest (suc n) xs (betterOf b n src)
   unfolding betterOf
-  next = by (requests src) (ltb (b .level) (SRC·SRPN src)) refl refl
+  next = by (requests src) (leb (b .level) (SRC·SRPN src)) refl refl
     where
-      by : (p q : Bool) → requests src ≡ p → ltb (b .level) (SRC·SRPN src) ≡ q → HighestBelow (suc n) xs (cond (p && q) (best n (SRC·SRPN src)) b)
-      by true true e f = taken e (ltb-true (b .level) (SRC·SRPN src) f)
-      by true false e f = kept (λ _. ltb-false (b .level) (SRC·SRPN src) f)
+      by : (p q : Bool) → requests src ≡ p → leb (b .level) (SRC·SRPN src) ≡ q → Highest (suc n) xs (cond (p && q) (best n (SRC·SRPN src)) b)
+      by true true e f = taken e (leb-true (b .level) (SRC·SRPN src) f)
+      by true false e f = kept (λ _. leb-false (b .level) (SRC·SRPN src) f)
       by false q e f = kept (λ g. absurd (never (sym g ∙ e)))
 
-highest-below : (n : ℕ) (xs : List ℕ) → HighestBelow n xs (bestBelow n xs)
+highest : (n : ℕ) (xs : List ℕ) → Highest n xs (bestBelow n xs)
 unfolding bestBelow src
-highest-below zero xs = record { above = λ i k r. absurd (omega arith); one = λ p. absurd (omega arith); first = λ i k m p r. absurd (omega arith) }
-highest-below (suc n) xs = next n xs (bestBelow n xs) (highest-below n xs)
+highest zero xs = record { one = inr (λ i p. absurd (omega (arith, p .0)), refl); above = λ i p. absurd (omega (arith, p .0)); after = λ i p k. absurd (omega (arith, p .0)) }
+highest (suc n) xs = next n xs (bestBelow n xs) (highest n xs)
 
-pub highest : (xs : List ℕ) → Highest xs (bestOf xs)
-highest xs = let h = highest-below 16 xs in record { above = h .above; one = h .one; first = h .first }
+-- none that does not stand below the best is after it
+not-after : (n : ℕ) (xs : List ℕ) (b : Best) → Highest n xs b → (i : ℕ) → Pending n xs i → b .level ≤ SRC·SRPN (getD xs i 0) → i ≤ b .source
+not-after n xs b h i p l = by (lt-or-ge (b .source) i)
+  where
+    by : (b .source < i) ⊎ (i ≤ b .source) → i ≤ b .source
+    by (inl k) = let a = h .after i p k in absurd (omega arith)
+    by (inr k) = k
+
+-- no other is the best
+only : (n : ℕ) (xs : List ℕ) (b c : Best) → Highest n xs b → Highest n xs c → c ≡ b
+only n xs b c h k = by (h .one) (k .one)
+  where
+    by : OneOf n xs b → OneOf n xs c → c ≡ b
+    by (inl o) (inl p) =
+        let u = h .above (c .source) (p .0) in
+        let v = k .above (b .source) (o .0) in
+        let l : c .level ≡ b .level = omega (arith, o .1, p .1) in
+        let x = not-after n xs b h (c .source) (p .0) (omega (arith, p .1)) in
+        let y = not-after n xs c k (b .source) (o .0) (omega (arith, o .1)) in
+        let s : c .source ≡ b .source = omega arith in
+        ap (λ (i : ℕ). best i (c .level)) s ∙ ap (best (b .source)) l
+    by (inl o) (inr p) = absurd (p .0 (b .source) (o .0))
+    by (inr o) (inl p) = absurd (o .0 (c .source) (p .0))
+    by (inr o) (inr p) = p .1 ∙ sym (o .1)
+
+pub best-is : (xs : List ℕ) (r : Best) → r ≡ bestOf xs → (r ≡ bestOf xs) × Exactly (Highest 16 xs) r
+best-is xs r e = exactly (Highest 16 xs) (bestOf xs) (highest 16 xs) (λ c h. only 16 xs (bestOf xs) c (highest 16 xs) h) r e
+
+-- a priority number is a byte
+pub level-byte : (xs : List ℕ) → bestOf xs .level < 2 ^ 8
+level-byte xs = by (highest 16 xs .one)
+  where
+    by : OneOf 16 xs (bestOf xs) → bestOf xs .level < 2 ^ 8
+    by (inl o) = omega (arith, o .1)
+    by (inr o) = let z = ap (λ (x : Best). x .level) (o .1) in omega arith
 
 -- the loop's turn
 pub turn : (xs : List ℕ) (n : ℕ) (b : Best) → b ≡ bestBelow n xs → betterOf b n (getD xs n 0) ≡ bestBelow (n + 1) xs

@@ -1,21 +1,22 @@
 // The interrupt sources (002, chapter 5): which one is taken first, and when.
 
 ghost use mathlib.Core.Path.{_≡_};
+ghost use Rattle.words.specs.Exactly.{Exactly};
 ghost use Rattle.interrupts.specs.Sources.{betterOf, bestOf, takes, clearedAt, Highest};
 
-// The enabled requesting source of the highest priority number, with that number; 16 and 0 for none above 0.
+// The enabled requesting source of the highest priority number, with that number; 16 and 0 for none.
 pub struct Best {
     pub source: u8,
     pub level: u8,
 }
 
-// The better of the best so far and source i: a tie stays with the lower source number.
+// The better of the best so far and source i: a tie goes to the higher source number.
 fn better(b: Best, i: u8, src: u32) -> Best
     ensures { λ r. ⌜ r ≡ betterOf b i src ⌝ }
 {
     if fields::request::pending(src) {
         let priority = fields::request::priority(src);
-        if b.level < priority {
+        if b.level <= priority {
             return Best {
                 source: i,
                 level: priority,
@@ -27,7 +28,7 @@ fn better(b: Best, i: u8, src: u32) -> Best
 
 // The best of the sixteen sources.
 pub fn best_source(sources: &[u32; 16]) -> Best
-    ensures { λ r. ⌜ (r ≡ bestOf (now (sources .entry))) × Highest (now (sources .entry)) r ⌝ }
+    ensures { λ r. ⌜ (r ≡ bestOf (now (sources .entry))) × Exactly (Highest 16 (now (sources .entry))) r ⌝ }
 {
     let mut b = Best {
         source: 16,

@@ -23,17 +23,13 @@ pub struct Machine<'a, O> {
 /// Above every CCPN: the requests are looked through once IE is 1.
 const UNKNOWN: (u32, usize) = (256, 0);
 
-/// The foremost of the enabled requests, whatever CCPN is; priority number 0 where there is none.
+/// The foremost of the enabled requests, whatever CCPN is: of the highest priority number, and of equal ones of the highest
+/// source number. Priority number 0 where there is none.
 #[cold]
 fn foremost(requests: &[u32; 16]) -> (u32, usize) {
-    let mut best = (0, 0);
-    for (source, word) in requests.iter().enumerate() {
-        let asks = word & (request::ENABLED | request::REQUESTED) == request::ENABLED | request::REQUESTED;
-        if asks && word & request::PRIORITY > best.0 {
-            best = (word & request::PRIORITY, source);
-        }
-    }
-    best
+    let asks = request::ENABLED | request::REQUESTED;
+    let asking = requests.iter().enumerate().filter(|(_, word)| *word & asks == asks);
+    asking.map(|(source, word)| (word & request::PRIORITY, source)).max().unwrap_or((0, 0))
 }
 
 impl<'a, O: Observer> Machine<'a, O> {

@@ -1,4 +1,4 @@
-//! The second model: written from the scope document, apart from the Rattle code and its definitions.
+//! The second model: written from the scope document and the change requests, apart from the Rattle code and its definitions.
 
 pub mod checks;
 pub mod code;

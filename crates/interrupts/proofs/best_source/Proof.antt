@@ -2,8 +2,8 @@
 use borrow.Author.Needs.{needs}
 use Prim.Native.Nat.{ℕ, _-_, _≤_}
 use mathlib.Core.Path.{_≡_, refl, subst, _∙_}
-use Rattle.interrupts.specs.Sources.{bestBelow, bestOf}
-use Rattle.interrupts.proofs.Sources.{turn, highest}
+use Rattle.interrupts.specs.Sources.{bestBelow}
+use Rattle.interrupts.proofs.Sources.{turn, best-is}
 use native.Mathlib.Omega.{arith}
 use Rattle.interrupts.proofs.best_source.Statement.{statement}
 use Rattle.interrupts.proofs.best_source.Tie as tie
@@ -25,8 +25,7 @@ returns : tie.Need-returns Inv-loop μ-loop
 returns c =
     let l = c .before .loop in
     let e : l .i ≡ 16 = omega arith in
-    let is : l .b ≡ bestOf (c .before .before .args .sources .now) = subst (λ (n : ℕ). l .b ≡ bestBelow n (c .before .before .args .sources .now)) e (l .inv .1) in
-    (is, rw is (highest (c .before .before .args .sources .now)))
+    best-is (c .before .before .args .sources .now) (l .b) (subst (λ (n : ℕ). l .b ≡ bestBelow n (c .before .before .args .sources .now)) e (l .inv .1))
 
 pub best-source-spec : {M : Type 1} → statement M
 best-source-spec =

@@ -1,17 +1,17 @@
 -- `interrupts::better` meets its contract. Assumes nothing.
 use borrow.Author.Needs.{needs}
-use borrow.Author.Tests.{lt-ltb, le-ltb}
+use borrow.Author.Tests.{le-leb, lt-leb}
 use Rattle.interrupts.specs.Sources.{betterOf}
 use Rattle.interrupts.proofs.better.Statement.{statement}
 use Rattle.interrupts.proofs.better.Tie as tie
 
 returns : tie.Need-returns
 unfolding betterOf
-returns c = rw (← c .before .before .before .before .pending .ensures, c .before .before .before .if1 .taken, ← c .before .before .priority .ensures, lt-ltb _ _ (c .if2 .taken))
+returns c = rw (← c .before .before .before .before .pending .ensures, c .before .before .before .if1 .taken, ← c .before .before .priority .ensures, le-leb _ _ (c .if2 .taken))
 
 returns-2 : tie.Need-returns-2
 unfolding betterOf
-returns-2 c = rw (← c .before .before .before .before .pending .ensures, c .before .before .before .if1 .taken, ← c .before .before .priority .ensures, le-ltb _ _ (c .if2 .left))
+returns-2 c = rw (← c .before .before .before .before .pending .ensures, c .before .before .before .if1 .taken, ← c .before .before .priority .ensures, lt-leb _ _ (c .if2 .left))
 
 returns-3 : tie.Need-returns-3
 unfolding betterOf
