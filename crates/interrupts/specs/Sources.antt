@@ -13,18 +13,6 @@ use Rattle.interrupts.specs.declared.Best.{Best}
 abbrev pub best : ℕ → ℕ → Best
 best i n = record { source = i; level = n }
 
--- source i is better where it is enabled, requests, and does not stand below the best before it: at a tie the later source is
-unfoldable pub betterOf : Best → ℕ → ℕ → Best
-betterOf b i src = cond (requests src && leb (b .level) (SRC·SRPN src)) (best i (SRC·SRPN src)) b
-
--- of the first n sources
-unfoldable pub bestBelow : ℕ → List ℕ → Best
-bestBelow zero xs = best 16 0
-bestBelow (suc n) xs = betterOf (bestBelow n xs) n (getD xs n 0)
-
-abbrev pub bestOf : List ℕ → Best
-bestOf xs = bestBelow 16 xs
-
 -- source i of the first n is enabled and requests
 abbrev pub Pending : ℕ → List ℕ → ℕ → Type 0
 Pending n xs i = (i < n) × (requests (getD xs i 0) ≡ true)
@@ -38,6 +26,19 @@ pub record Highest (n : ℕ) (xs : List ℕ) (b : Best) : Type 0 where
   pub one : OneOf n xs b
   pub above : (i : ℕ) → Pending n xs i → SRC·SRPN (getD xs i 0) ≤ b .level
   pub after : (i : ℕ) → Pending n xs i → b .source < i → SRC·SRPN (getD xs i 0) < b .level
+
+-- source i is better where it is enabled, requests, and does not stand below the best before it: at a tie the later source is
+unfoldable pub betterOf : Best → ℕ → ℕ → Best
+betterOf b i src = cond (requests src && leb (b .level) (SRC·SRPN src)) (best i (SRC·SRPN src)) b
+
+-- the best of the first n sources, found by going through them
+unfoldable pub bestBelow : ℕ → List ℕ → Best
+bestBelow zero xs = best 16 0
+bestBelow (suc n) xs = betterOf (bestBelow n xs) n (getD xs n 0)
+
+-- and of all sixteen
+abbrev pub bestOf : List ℕ → Best
+bestOf xs = bestBelow 16 xs
 
 -- a source of that priority number is taken: IE is 1, and the number stands above CCPN. So number 0 never is
 unfoldable pub takes : ℕ → ℕ → Bool
