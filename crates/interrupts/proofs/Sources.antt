@@ -16,7 +16,7 @@ use Rattle.words.proofs.Truth.{never}
 use Rattle.words.proofs.Integers.{lt-or-ge}
 use Rattle.words.proofs.Answers.{exactly}
 use Rattle.fields.specs.Request.{SRC·SRPN, requests}
-use Rattle.interrupts.specs.Sources.{best, betterOf, bestBelow, bestOf, Pending, OneOf, Highest}
+use Rattle.interrupts.specs.Sources.{best, betterOf, bestBelow, bestOf, Pending, PendingOrNone, Highest}
 use Rattle.interrupts.specs.declared.Best.{Best}
 
 -- what is so of the sources before and of source n is so of the first n + 1
@@ -47,7 +47,7 @@ module _ (n : ℕ) (xs : List ℕ) (b : Best) (h : Highest n xs b) where
     after = by-source n xs (λ i. b .source < i → SRC·SRPN (getD xs i 0) < b .level) (h .after) (λ r _. q r);
   }
     where
-      still : OneOf n xs b → OneOf (suc n) xs b
+      still : PendingOrNone n xs b → PendingOrNone (suc n) xs b
       still (inl o) = inl ((omega (arith, o .0 .0), o .0 .1), o .1)
       still (inr o) = inr (by-source n xs (λ _. ⊥) (o .0) (λ r. let l = q r in let z = ap (λ (x : Best). x .level) (o .1) in absurd (omega arith)), o .1)
 
@@ -77,7 +77,7 @@ not-after n xs b h i p l = by (lt-or-ge (b .source) i)
 only : (n : ℕ) (xs : List ℕ) (b c : Best) → Highest n xs b → Highest n xs c → c ≡ b
 only n xs b c h k = by (h .one) (k .one)
   where
-    by : OneOf n xs b → OneOf n xs c → c ≡ b
+    by : PendingOrNone n xs b → PendingOrNone n xs c → c ≡ b
     by (inl o) (inl p) =
         let u = h .above (c .source) (p .0) in
         let v = k .above (b .source) (o .0) in
@@ -97,7 +97,7 @@ best-is xs r e = exactly (Highest 16 xs) (bestOf xs) (highest 16 xs) (λ c h. on
 pub level-byte : (xs : List ℕ) → bestOf xs .level < 2 ^ 8
 level-byte xs = by (highest 16 xs .one)
   where
-    by : OneOf 16 xs (bestOf xs) → bestOf xs .level < 2 ^ 8
+    by : PendingOrNone 16 xs (bestOf xs) → bestOf xs .level < 2 ^ 8
     by (inl o) = omega (arith, o .1)
     by (inr o) = let z = ap (λ (x : Best). x .level) (o .1) in omega arith
 

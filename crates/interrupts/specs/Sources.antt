@@ -18,12 +18,12 @@ abbrev pub Pending : ℕ → List ℕ → ℕ → Type 0
 Pending n xs i = (i < n) × (requests (getD xs i 0) ≡ true)
 
 -- one of those enabled and requesting, with its own priority number; 16 and 0 where there is none
-abbrev pub OneOf : ℕ → List ℕ → Best → Type 0
-OneOf n xs b = (Pending n xs (b .source) × (SRC·SRPN (getD xs (b .source) 0) ≡ b .level)) ⊎ (((i : ℕ) → Pending n xs i → ⊥) × (b ≡ best 16 0))
+abbrev pub PendingOrNone : ℕ → List ℕ → Best → Type 0
+PendingOrNone n xs b = (Pending n xs (b .source) × (SRC·SRPN (getD xs (b .source) 0) ≡ b .level)) ⊎ (((i : ℕ) → Pending n xs i → ⊥) × (b ≡ best 16 0))
 
--- what the best of the first n sources is: one of those enabled and requesting; of them none stands above it, and of its priority number none after it
+-- what the best of the first n sources is: one of those enabled and requesting; of them none stands above it, and of its priority number none after it (02, point 1)
 pub record Highest (n : ℕ) (xs : List ℕ) (b : Best) : Type 0 where
-  pub one : OneOf n xs b
+  pub one : PendingOrNone n xs b
   pub above : (i : ℕ) → Pending n xs i → SRC·SRPN (getD xs i 0) ≤ b .level
   pub after : (i : ℕ) → Pending n xs i → b .source < i → SRC·SRPN (getD xs i 0) < b .level
 
