@@ -90,7 +90,7 @@ impl Coverage {
         self.fcd_after[counter] += 1;
     }
 
-    /// The interrupt of a source, with those of the sixteen words.
+    /// An interrupt of that source, taken with these request words.
     pub fn interrupt(&mut self, source: usize, requests: &[u32; 16]) {
         let alike = |k: &usize| (requests[*k] ^ requests[source]) & (ENABLED | REQUESTED | PRIORITY) == 0;
         let others: Vec<usize> = (0..16).filter(|k| *k != source).filter(alike).collect();
