@@ -34,14 +34,15 @@
  *   15:8    the source of an interrupt, the class of a trap,
  *           the number of a stop (11, 12) or of a refusal (1 to 6)
  *   23:16   the TIN of a trap
- *   26:24   of a step: the range that permitted the fetch
- *   29:27   of a step: the range that permitted the data access
+ *   26:24   of a step: the lowest range that permits the fetch
+ *   29:27   of a step: the lowest range that permits the data access
  *   31:30   0
  *   63:32   the place of a refusal; of a run, the steps made
  *
- * What does not apply is 0. A permitting range is 4 + k, where k is 0 to 3, its
- * number among the four code ranges (for a fetch) or data ranges of set PSW.PRS.
- * It is 0 where protection asked no range, or none permitted the access.
+ * What does not apply is 0. A permitting range is the lowest that permits the
+ * access, told as 4 + k, where k is 0 to 3, its number among the four code ranges
+ * (for a fetch) or data ranges of set PSW.PRS. It is 0 where protection asked no
+ * range, or none permitted the access. A step that stops tells it too.
  */
 #ifndef DEQBARYN_H
 #define DEQBARYN_H
@@ -241,12 +242,12 @@ static inline unsigned deqbaryn_answer_trap(uint64_t answer) {
     return deqbaryn_answer_number(answer) << 8 | deqbaryn_answer_tin(answer);
 }
 
-/* of a step: 0, or 4 + the number of the code range that permitted the fetch */
+/* of a step: 0, or 4 + the number of the lowest code range that permits the fetch */
 static inline unsigned deqbaryn_answer_fetch_range(uint64_t answer) {
     return (unsigned)(answer >> 24 & 7);
 }
 
-/* of a step: 0, or 4 + the number of the data range that permitted the access */
+/* of a step: 0, or 4 + the number of the lowest data range that permits the access */
 static inline unsigned deqbaryn_answer_data_range(uint64_t answer) {
     return (unsigned)(answer >> 27 & 7);
 }

@@ -5,6 +5,7 @@ use crate::model::event::{Event, Stop, FCD, SYS_CLASS, TRAPS};
 use crate::model::fields::request::{ENABLED, PRIORITY, REQUESTED};
 use crate::model::fields::PROTECTION_ON;
 use crate::model::operations::NAMES;
+use crate::model::protection::Access;
 use std::fmt;
 
 /// Numbers of stops that exist, and of refusals.
@@ -31,6 +32,10 @@ pub struct Coverage {
     steps_with_protection: u64,
     /// Interrupts of a source with others of its priority number: with any, with two or more, with none next to it.
     ties: [u64; 3],
+    /// Of the accesses whose permitting range a step told, as reads, writes and fetches: by the range.
+    named: [[u64; 4]; 3],
+    /// Of them those that a later range permits too, and those of which this one is not the set's first.
+    overlaps: [[u64; 2]; 3],
     /// By PRS, IO, IS, GW, CDE, and by CDC.
     psw: [u64; 128],
     cdc: [u64; 128],
@@ -55,6 +60,8 @@ impl Default for Coverage {
             runs_stopped_midway: 0,
             steps_with_protection: 0,
             ties: [0; 3],
+            named: [[0; 4]; 3],
+            overlaps: [[0; 2]; 3],
             psw: [0; 128],
             cdc: [0; 128],
         }
@@ -99,6 +106,21 @@ impl Coverage {
         self.ties[2] += (!others.is_empty() && others.iter().all(|k| k.abs_diff(source) > 1)) as u64;
     }
 
+    /// An access of a step that told its permitting range, with all ranges of the set that permit it.
+    pub fn permitted(&mut self, access: Access, ranges: &[usize]) {
+        let access = access as usize;
+        self.named[access][ranges[0]] += 1;
+        if ranges.len() > 1 {
+            self.overlaps[access][0] += 1;
+            self.overlaps[access][1] += (ranges[0] > 0) as u64;
+        }
+    }
+
+    /// The fewest told of a kind of access that several ranges permit, with and without the set's first.
+    pub fn fewest_overlaps(&self) -> u64 {
+        self.overlaps.iter().map(|[all, past]| (*past).min(all - past)).min().unwrap()
+    }
+
     /// A call's answer, as far as no step tells it.
     pub fn answer(&mut self, answer: u64) {
         match answer as u8 {
@@ -133,6 +155,11 @@ impl Coverage {
             ("interrupt at a tie of 3".into(), self.ties[1]),
             ("interrupt at a tie apart".into(), self.ties[2]),
         ];
+        for (k, access) in ["read", "write", "fetch"].into_iter().enumerate() {
+            counts.extend((0..4).map(|n| (format!("{access} by range {n}"), self.named[k][n])));
+            counts.push((format!("{access} in several ranges"), self.overlaps[k][0]));
+            counts.push((format!("{access} past the first"), self.overlaps[k][1]));
+        }
         counts.extend((0..16).map(|k| (format!("interrupt of source {k}"), self.interrupts[k])));
         for trap in TRAPS {
             let n = self.traps[trap.class as usize][trap.tin as usize];

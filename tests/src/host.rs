@@ -31,9 +31,6 @@ extern "C" {
     ) -> u64;
 }
 
-/// The bits of an answer that the second model gives too. The others name permitting ranges, which are free.
-pub const COMPARED: u64 = 0xFFFF_FFFF_00FF_FFFF;
-
 pub fn start(core: &[u8], base: u32, window: &[u8], image: &[u8]) -> u64 {
     unsafe {
         deqbaryn_start(core.as_ptr(), core.len(), base, window.as_ptr(), window.len(), image.as_ptr(), image.len())

@@ -7,7 +7,6 @@ pub mod host;
 pub mod inputs;
 pub mod integer;
 pub mod model;
-pub mod permits;
 pub mod report;
 pub mod watch;
 pub mod worked;

@@ -5,6 +5,7 @@ use crate::coverage::Coverage;
 use crate::model::core::Core;
 use crate::model::event::{Event, Stop};
 use crate::model::observer::{Half, Observer};
+use crate::model::protection::Access;
 
 /// What came up while a book was kept.
 #[derive(Debug, Default)]
@@ -29,6 +30,8 @@ pub struct Watcher {
     requests: [u32; 16],
     lcx: u32,
     operation: Option<u8>,
+    /// The latest step's accesses, each with the numbers of the ranges that permit it.
+    permitted: Vec<(Access, Vec<usize>)>,
     saves: Vec<(Half, Registers)>,
     entries: Vec<Event>,
 }
@@ -37,6 +40,13 @@ impl Watcher {
     fn note(&mut self, result: Result<(), String>) {
         if let Err(fault) = result {
             self.fault.get_or_insert(fault);
+        }
+    }
+
+    /// A step that was not refused, whose answer told its permitting ranges.
+    pub fn told(&mut self) {
+        for (access, ranges) in &self.permitted {
+            self.coverage.permitted(*access, ranges);
         }
     }
 
@@ -72,8 +82,15 @@ impl Observer for &mut Watcher {
         self.requests = core.requests;
         self.lcx = core.lcx;
         self.operation = None;
+        self.permitted.clear();
         self.entries.clear();
         self.saves.clear();
+    }
+
+    fn permitted(&mut self, core: &Core, access: Access, address: u32, by: Option<usize>) {
+        if by.is_some() {
+            self.permitted.push((access, core.permitting(access, address).collect()));
+        }
     }
 
     fn fetched(&mut self, operation: u8) {

@@ -7,12 +7,14 @@ use deqbaryn_tests::model::core::{Core, RECORD};
 use deqbaryn_tests::model::machine;
 use deqbaryn_tests::report::{difference, place};
 use deqbaryn_tests::watch::Watcher;
-use deqbaryn_tests::{host, model::event::answer, permits};
+use deqbaryn_tests::{host, model::event::answer};
 
 const LEAST_SERIES: u64 = 500;
 const LEAST_RETURNS: u64 = 2_000;
 /// Of each: returns of entries read at the start, interrupts, FCD entries, stops, refused calls.
 const LEAST_OTHERS: u64 = 100;
+/// Of each: reads, writes and fetches that several ranges permit, the set's first among them and not.
+const LEAST_OVERLAPS: u64 = 1_000;
 
 fn number(name: &str, default: u64) -> u64 {
     std::env::var(name).map_or(default, |text| text.parse().unwrap_or_else(|_| panic!("{name} is no number")))
@@ -39,19 +41,11 @@ fn model_call(side: &mut Side, base: u32, image: &[u8], kind: Kind, watcher: &mu
     }
 }
 
-/// Whether the permitting ranges in an answer have their properties. A run, a refusal and a record of a wrong length name none.
-fn permitted(core: &[u8], image: &[u8], kind: Kind, answer: u64) -> bool {
-    match (kind, core.try_into(), answer as u8) {
-        (Kind::Step, Ok(record), 0..=3) => permits::hold(&Core::from_record(record), image, answer),
-        _ => answer & !host::COMPARED == 0,
-    }
-}
-
 /// The shortest run that differs from the same state on, with the state before its last step.
 fn narrowed(before: &Side, base: u32, image: &[u8], most: u32) -> Option<String> {
     let after = |n: u32| {
         let (mut proved, mut model) = (before.clone(), before.clone());
-        let p = host::run(&mut proved.core, base, &mut proved.window, image, n) & host::COMPARED;
+        let p = host::run(&mut proved.core, base, &mut proved.window, image, n);
         let m = machine::run(&mut model.core, base, &mut model.window, image, n);
         (p, proved, m, model)
     };
@@ -79,7 +73,7 @@ fn set(core: &mut [u8], change: Change) {
 /// The start of a series on both sides; the book begins where it is accepted.
 fn start(seed: u64, series: &Series, watcher: &mut Watcher) {
     for image in &series.images {
-        let proved = host::start(&series.core, series.base, &series.window, image) & host::COMPARED;
+        let proved = host::start(&series.core, series.base, &series.window, image);
         let model = machine::start(&series.core, series.base, &series.window, image);
         assert!(proved == model, "DEQBARYN_SEED={seed}: start, proved {proved:016X}, model {model:016X}");
         watcher.coverage.answer(model);
@@ -110,12 +104,7 @@ fn walk(seed: u64, watcher: &mut Watcher) {
         let whole = side.core.clone();
         side.core.resize(call.length, 0xA5);
         let (before, mut proved) = (side.clone(), side.clone());
-        let answer = proved_call(&mut proved, base, image, call.kind);
-        assert!(
-            permitted(&before.core, image, call.kind, answer),
-            "DEQBARYN_SEED={seed}: call {k}: ranges {answer:016X}"
-        );
-        let p = answer & host::COMPARED;
+        let p = proved_call(&mut proved, base, image, call.kind);
         let m = model_call(&mut side, base, image, call.kind, watcher);
         if p != m || proved != side {
             let text = difference(base, (p, &proved.core, &proved.window), (m, &side.core, &side.window));
@@ -131,8 +120,10 @@ fn walk(seed: u64, watcher: &mut Watcher) {
                 narrowed.unwrap_or_default()
             );
         }
-        if let Kind::Run(n) = call.kind {
-            watcher.coverage.run(n, m);
+        match call.kind {
+            Kind::Run(n) => watcher.coverage.run(n, m),
+            Kind::Step if m as u8 <= 3 => watcher.told(),
+            Kind::Step => {}
         }
         if call.length != RECORD {
             assert!(side == before, "DEQBARYN_SEED={seed}: call {k} changed a record of a wrong length");
@@ -165,6 +156,8 @@ fn the_proved_machine_agrees_with_the_second_model() {
     println!("{} series; the conditions of demand 3 held in {met}; while they held: {:?}", seed - first, watcher.kept);
     let missing = watcher.coverage.missing();
     assert!(missing.is_empty(), "never met: {missing:?}");
+    let overlaps = watcher.coverage.fewest_overlaps();
+    assert!(overlaps >= LEAST_OVERLAPS, "{overlaps} accesses of a kind only met several ranges");
     assert!(met >= LEAST_SERIES, "the conditions held in {met} series only");
     let kept = watcher.kept;
     assert!(kept.returns >= LEAST_RETURNS, "{} returns only were compared", kept.returns);

@@ -9,8 +9,9 @@ use Rattle.inputs.specs.declared.verdict.Verdict.{Verdict}
 use Rattle.inputs.specs.declared.verdict.Verdict.the-variants as verdict
 use Rattle.machine.specs.declared.answer.Outcome.{Outcome}
 use Rattle.machine.specs.declared.answer.Outcome.the-variants.{Made, Stopped, Refused}
-use Rattle.permits.specs.declared.Permit.{Permit}
-use Rattle.permits.specs.declared.Permit.the-variants.{Unnamed, By}
+use Rattle.protection.specs.declared.range.Permit.{Permit}
+use Rattle.protection.specs.declared.range.Permit.the-variants.{Unnamed, By}
+use Rattle.permits.specs.declared.Permits.{Permits}
 
 -- bits 7:0 the kind, 15:8 the number, 23:16 the TIN, 31:24 the permitting ranges, 63:32 the high word
 unfoldable pub packedOf : ℕ → ℕ → ℕ → ℕ → ℕ → ℕ
@@ -22,8 +23,8 @@ permitNumber Unnamed = 0
 permitNumber (By k) = 4 + k % 4
 
 -- bits 26:24 for the fetch, 29:27 for the data access
-abbrev pub permitsNumber : Permit → Permit → ℕ
-permitsNumber fetch access = permitNumber fetch + permitNumber access * 2 ^ 3
+abbrev pub permitsNumber : Permits → ℕ
+permitsNumber p = permitNumber (p .fetch) + permitNumber (p .data) * 2 ^ 3
 
 -- 0 an instruction, 1 an interrupt with its source, 2 a trap with class and TIN
 abbrev pub eventAnswer : Event → ℕ → ℕ → ℕ

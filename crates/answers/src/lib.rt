@@ -7,7 +7,8 @@ use inputs::verdict::Verdict;
 use inputs::verdict::fault;
 use inputs::verdict::number;
 use machine::answer::Outcome;
-use permits::Permit;
+use permits::Permits;
+use protection::range::Permit;
 ghost use mathlib.Core.Path.{_≡_};
 ghost use Prim.Native.Nat.{_<_};
 ghost use Rattle.answers.specs.Answers.{packedOf, permitNumber, permitsNumber, eventAnswer, refusalAnswer, outcomeAnswer, wrongLength, verdictAnswer};
@@ -32,10 +33,13 @@ fn permit(p: Permit) -> u8
     }
 }
 
-pub fn permits(fetch: Permit, access: Permit) -> u8
-    ensures { λ r. ⌜ r ≡ permitsNumber fetch access ⌝ }
+// The fetch's range, and three bits higher the data access's.
+pub fn permits(p: Permits) -> u8
+    ensures { λ r. ⌜ r ≡ permitsNumber p ⌝ }
 {
-    permit(fetch) + permit(access) * 8
+    let fetch = p.fetch;
+    let data = p.data;
+    permit(fetch) + permit(data) * 8
 }
 
 fn event_answer(e: Event, permits: u8, high: u32) -> u64

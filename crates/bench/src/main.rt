@@ -6,7 +6,7 @@ use integer::Integer;
 use integer::compute;
 use interrupts::taken;
 use libc::STDOUT_FILENO;
-use protection::range::Found;
+use protection::range::Permit;
 use protection::range::Right;
 use protection::range::search;
 ghost use Rattle.bench.specs.Starred.{Starred};
@@ -53,11 +53,11 @@ fn range_values() {
     range_row(0xD000_0200, outside);
 }
 
-fn range_row(address: u32, found: Found) {
+fn range_row(address: u32, found: Permit) {
     word(address);
     match found {
-        Found::By(_) => text(b": in\n"),
-        Found::Nothing => text(b": out\n"),
+        Permit::By(_) => text(b": in\n"),
+        Permit::Unnamed => text(b": out\n"),
     }
 }
 

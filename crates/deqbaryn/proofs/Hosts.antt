@@ -19,16 +19,15 @@ use Rattle.inputs.specs.declared.verdict.Verdict.the-variants as verdict
 use Rattle.decisions.specs.Valid.{Words}
 use Rattle.machine.specs.Step.{verdictIn, StepOf, stepped, stepOf}
 use Rattle.machine.specs.Run.{RunOf, ran, runOf, RefusedKeeps}
-use Rattle.permits.specs.Permits.{fetchOfStep, dataOfStep, PermitSays}
 use Rattle.machine.specs.declared.answer.Outcome.{Outcome}
 use Rattle.machine.specs.declared.answer.Outcome.the-variants.{Made, Stopped, Refused}
 use Rattle.machine.proofs.Unmade.{Unmoved, unmoved, none-made}
-use Rattle.permits.specs.declared.Permit.{Permit}
+use Rattle.permits.specs.declared.Permits.{Permits}
 use Rattle.series.specs.Calls.{state}
 use Rattle.records.specs.CoreRecord.{registersIn, requestsIn, rangesOf, storedIn}
 use Rattle.records.proofs.Kept.{stored-kept, registers-back}
 use Rattle.answers.specs.Answers.{packedOf, permitsNumber, outcomeAnswer, wrongLength, verdictAnswer}
-use Rattle.deqbaryn.specs.Host.{isRecord, startAnswer, StartTells, left, stepStored, runStored, stepLeft, StepAnswer, StepAnswers, StepTells, StepHolds, runOn, afterRun, runLeft, runAnswer, RunTells, RunHolds, UnmadeKeeps}
+use Rattle.deqbaryn.specs.Host.{isRecord, startAnswer, StartTells, Called, called, stepStored, runStored, stepCall, StepTells, StepHolds, runOn, runCalled, runCall, RunTells, RunHolds, UnmadeKeeps}
 use Rattle.deqbaryn.specs.Calls.{HostFollows, AcceptedFollows}
 
 -- only a start that is accepted is answered so
@@ -47,10 +46,10 @@ module _ (bytes : List ℕ) (l : length bytes ≡ 616) (q : Registers) (w : Word
   back = registers-back q ys bytes l (w .0 .size, w .0 .each) (w .1 .size, w .1 .each) (w .2 .size, w .2 .each)
 
   module _ {r : Registers} (reg : r ≡ registersIn bytes) (xs : List ℕ) (m after : Memory) where
-    pub step-stored : (img : List ℕ) (rs : List Range) (o : Outcome) → Unmoved img r xs rs m o (stepped o q ys after) → registersIn (stepStored o q ys bytes) ≡ q
-    step-stored img rs (Made e) u = back
-    step-stored img rs (Stopped x) u = sym (u .registers ∙ reg)
-    step-stored img rs (Refused x) u = sym (u .registers ∙ reg)
+    pub step-stored : (img : List ℕ) (rs : List Range) (o : Outcome) (p : Permits) → Unmoved img r xs rs m o (stepped o q ys after p) → registersIn (stepStored o q ys bytes) ≡ q
+    step-stored img rs (Made e) p u = back
+    step-stored img rs (Stopped x) p u = sym (u .registers ∙ reg)
+    step-stored img rs (Refused x) p u = sym (u .registers ∙ reg)
 
     pub run-stored : (o : Outcome) (made : ℕ) → RefusedKeeps r xs m (ran o made q ys after) → registersIn (runStored o q ys bytes) ≡ q
     run-stored (Made e) made u = back
@@ -63,11 +62,11 @@ module _ (bytes : List ℕ) (m : Memory) (img : List ℕ) where
     pub start-wrong : (n ≡ startAnswer bytes m img) × (StartTells bytes m img n × AcceptedFollows bytes m n)
     start-wrong = (rw (ne-eqb (length bytes) 616 w) is, (λ l. absurd (w l), λ e. absurd (wrong-differs (sym is ∙ e))))
 
-    pub step-wrong : (left bytes m ≡ stepLeft bytes m img) × (StepAnswers bytes m img n × (StepTells bytes m img × StepHolds bytes m img bytes))
-    step-wrong = (rw (ne-eqb (length bytes) 616 w), (rw (ne-eqb (length bytes) 616 w) is, (λ l. absurd (w l), λ l. absurd (w l))))
+    pub step-wrong : (called n bytes m ≡ stepCall bytes m img) × (StepTells bytes m img × StepHolds bytes m img bytes)
+    step-wrong = (rw (ne-eqb (length bytes) 616 w, is), (λ l. absurd (w l), λ l. absurd (w l)))
 
-    pub run-wrong : (k : ℕ) → (left bytes m ≡ runLeft k bytes m img) × (n ≡ runAnswer k bytes m img) × RunTells k bytes m img × RunHolds k bytes m img bytes
-    run-wrong k = (rw (ne-eqb (length bytes) 616 w), rw (ne-eqb (length bytes) 616 w) is, λ l. absurd (w l), λ l. absurd (w l))
+    pub run-wrong : (k : ℕ) → (called n bytes m ≡ runCall k bytes m img) × RunTells k bytes m img × RunHolds k bytes m img bytes
+    run-wrong k = (rw (ne-eqb (length bytes) 616 w, is), λ l. absurd (w l), λ l. absurd (w l))
 
   -- ---- a record, with what is read from it
   module _ (l : length bytes ≡ 616) {r : Registers} (reg : r ≡ registersIn bytes) where
@@ -77,33 +76,18 @@ module _ (bytes : List ℕ) (m : Memory) (img : List ℕ) where
         (rw (eq-eqb (length bytes) 616 l, ← reg) (is ∙ ap verdictAnswer said), (λ _. record { answer = v; number = is; exactly = rw (← reg) x }, λ e. rw (← reg) (follows (accepted v (sym is ∙ e)))))
 
     module _ {xs : List ℕ} (req : xs ≡ requestsIn bytes) {rs : List Range} (rng : rs ≡ rangesOf bytes) {o : Outcome} {q : Registers} {ys : List ℕ} {after : Memory} where
-      module _ (s : stepped o q ys after ≡ stepOf img r xs rs m) where
-        step-left : {core : List ℕ} → core ≡ stepStored o q ys bytes → left core after ≡ stepLeft bytes m img
-        step-left is = rw (eq-eqb (length bytes) 616 l, ← reg, ← req, ← rng, ← s, is)
+      module _ {p : Permits} (s : stepped o q ys after p ≡ stepOf img r xs rs m) {core : List ℕ} (is : core ≡ stepStored o q ys bytes) where
+        step-called : {n : ℕ} → n ≡ outcomeAnswer o (permitsNumber p) 0 → called n core after ≡ stepCall bytes m img
+        step-called e = rw (eq-eqb (length bytes) 616 l, ← reg, ← req, ← rng, ← s, is, e)
 
-        step-answer : (f d : Permit) → PermitSays r rs (fetchOfStep img r xs m) f → PermitSays r rs (dataOfStep img r xs rs m) d
-            → {n : ℕ} → n ≡ outcomeAnswer o (permitsNumber f d) 0 → StepAnswers bytes m img n
-        step-answer f d p p′ {n} is = rw (eq-eqb (length bytes) 616 l) by
-          where
-            by : StepAnswer bytes m img n
-            by =
-                record {
-                  fetch = f;
-                  access = d;
-                  fetch-says = rw (← reg, ← req, ← rng) p;
-                  access-says = rw (← reg, ← req, ← rng) p′;
-                  is = rw (← reg, ← req, ← rng, ← s) is;
-                }
-
-        step-holds : Words 16 (q .d) × Words 16 (q .a) × Words 10 (q .core) → {core : List ℕ} → core ≡ stepStored o q ys bytes → StepHolds bytes m img core
-        step-holds w is _ =
+        step-holds : Words 16 (q .d) × Words 16 (q .a) × Words 10 (q .core) → StepHolds bytes m img core
+        step-holds w _ =
             rw (← reg, ← req, ← rng, ← s, is)
-            (step-stored bytes l q w ys reg xs m after img rs o (subst (λ (v : StepOf). Unmoved img r xs rs m (v .outcome) v) (sym s) (unmoved img r xs rs m)))
+            (step-stored bytes l q w ys reg xs m after img rs o p (subst (λ (v : StepOf). Unmoved img r xs rs m (v .outcome) v) (sym s) (unmoved img r xs rs m)))
 
-        pub step-right : Words 16 (q .d) × Words 16 (q .a) × Words 10 (q .core) → {core : List ℕ} → core ≡ stepStored o q ys bytes
-            → (f d : Permit) → PermitSays r rs (fetchOfStep img r xs m) f → PermitSays r rs (dataOfStep img r xs rs m) d
-            → Exactly (StepSays m img (pc r)) (verdictIn o) → {n : ℕ} → n ≡ outcomeAnswer o (permitsNumber f d) 0 → (left core after ≡ stepLeft bytes m img) × (StepAnswers bytes m img n × (StepTells bytes m img × StepHolds bytes m img core))
-        step-right w is f d p p′ x e = (step-left is, (step-answer f d p p′ e, (λ _. rw (← reg, ← req, ← rng, ← s) x, step-holds w is)))
+        pub step-right : Words 16 (q .d) × Words 16 (q .a) × Words 10 (q .core) → Exactly (StepSays m img (pc r)) (verdictIn o) → {n : ℕ} → n ≡ outcomeAnswer o (permitsNumber p) 0
+            → (called n core after ≡ stepCall bytes m img) × (StepTells bytes m img × StepHolds bytes m img core)
+        step-right w x e = (step-called e, (λ _. rw (← reg, ← req, ← rng, ← s) x, step-holds w))
 
       module _ (k made : ℕ) (s : ran o made q ys after ≡ runOf k img r xs rs m) where
         run-holds : Words 16 (q .d) × Words 16 (q .a) × Words 10 (q .core) → RefusedKeeps r xs m (ran o made q ys after)
@@ -112,9 +96,9 @@ module _ (bytes : List ℕ) (m : Memory) (img : List ℕ) where
 
         pub run-right : Words 16 (q .d) × Words 16 (q .a) × Words 10 (q .core) → RefusedKeeps r xs m (ran o made q ys after)
             → Exactly (StepSays m img (pc r)) (verdictIn o) → {core : List ℕ} → core ≡ runStored o q ys bytes → {n : ℕ} → n ≡ outcomeAnswer o 0 made
-            → (left core after ≡ runLeft k bytes m img) × (n ≡ runAnswer k bytes m img) × RunTells k bytes m img × RunHolds k bytes m img core
+            → (called n core after ≡ runCall k bytes m img) × RunTells k bytes m img × RunHolds k bytes m img core
         run-right w u x is e =
-            (rw (eq-eqb (length bytes) 616 l, ← reg, ← req, ← rng, ← s, is), rw (eq-eqb (length bytes) 616 l, ← reg, ← req, ← rng, ← s) e, λ _. rw (← reg, ← req, ← rng, ← s) x, run-holds w u is)
+            (rw (eq-eqb (length bytes) 616 l, ← reg, ← req, ← rng, ← s, is, e), λ _. rw (← reg, ← req, ← rng, ← s) x, run-holds w u is)
 
   -- ---- a run of which no step is made
   module _ (b : (j : ℕ) → getD bytes j 0 < 2 ^ 8) where
@@ -123,11 +107,11 @@ module _ (bytes : List ℕ) (m : Memory) (img : List ℕ) where
     stored (Stopped s) = stored-kept bytes b
     stored (Refused x) = refl
 
-    pub run-kept : (k : ℕ) {core : List ℕ} {after : Memory} → left core after ≡ runLeft k bytes m img → UnmadeKeeps k bytes m img (left core after)
-    run-kept k is z = is ∙ by (isRecord bytes)
+    pub run-kept : (k : ℕ) {n : ℕ} {core : List ℕ} {after : Memory} → called n core after ≡ runCall k bytes m img → UnmadeKeeps k bytes m img core after
+    run-kept k is z = let h = by (isRecord bytes) in (ap (λ (x : Called). x .core) is ∙ h .0, ap (λ (x : Called). x .memory) is ∙ h .1)
       where
-        by : (t : Bool) → cond t (afterRun (runOn k bytes m img) bytes) (left bytes m) ≡ left bytes m
+        by : (t : Bool) → (let x = cond t (runCalled (runOn k bytes m img) bytes) (called wrongLength bytes m) in (x .core ≡ bytes) × (x .memory ≡ m))
         by true =
             let l = none-made img (registersIn bytes) (requestsIn bytes) (rangesOf bytes) m k z in
-            rw (l .registers, l .requests, l .memory) (ap (λ (x : List ℕ). left x m) (stored (runOn k bytes m img .outcome)))
-        by false = refl
+            (rw (l .registers, l .requests) (stored (runOn k bytes m img .outcome)), l .memory)
+        by false = (refl, refl)

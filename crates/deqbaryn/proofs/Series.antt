@@ -34,7 +34,7 @@ module _ (h : HostCall) (s : State) (bounds : InBounds (s .registers) (s .memory
       let w = words (step-bounds (h .image .are) (rangesOf bytes) bounds (requestsIn bytes) .valid) in
       rw (e, eq-eqb (length bytes) 616 l, reg)
       (ap (λ (q : Registers). state q (v .memory))
-      (step-stored bytes l (v .registers) w (v .requests) (sym reg) (requestsIn bytes) (s .memory) (v .memory) img (rangesOf bytes) (v .outcome) (unmoved img (s .registers) (requestsIn bytes) (rangesOf bytes) (s .memory))))
+      (step-stored bytes l (v .registers) w (v .requests) (sym reg) (requestsIn bytes) (s .memory) (v .memory) img (rangesOf bytes) (v .outcome) (v .permits) (unmoved img (s .registers) (requestsIn bytes) (rangesOf bytes) (s .memory))))
   call-leaves (run n) e =
       let bytes = h .core .bytes in
       let img = h .image .bytes in

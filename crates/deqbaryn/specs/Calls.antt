@@ -10,7 +10,7 @@ use Rattle.series.specs.Calls.{Image, Kind, step, run, Call, State, state, afte
 use Rattle.series.specs.Claim.{Follows}
 use Rattle.records.specs.CoreRecord.{registersIn, requestsIn, rangesOf}
 use Rattle.answers.specs.Answers.{verdictAnswer}
-use Rattle.deqbaryn.specs.Host.{isRecord, Left, stepLeft, runLeft}
+use Rattle.deqbaryn.specs.Host.{isRecord, Called, stepCall, runCall}
 
 -- a call of deqbaryn_step or deqbaryn_run: the record and the image that the host lends, each a string of bytes
 pub record HostCall : Type 0 where
@@ -22,15 +22,15 @@ pub record HostCall : Type 0 where
 abbrev pub callOf : HostCall → Call
 callOf h = record { kind = h .kind; image = h .image; requests = requestsIn (h .core .bytes); ranges = rangesOf (h .core .bytes) }
 
--- the record and the window after it
-abbrev pub leftBy : Kind → HostCall → Memory → Left
-leftBy step h m = stepLeft (h .core .bytes) m (h .image .bytes)
-leftBy (run n) h m = runLeft n (h .core .bytes) m (h .image .bytes)
+-- what it answers and leaves
+abbrev pub calledBy : Kind → HostCall → Memory → Called
+calledBy step h m = stepCall (h .core .bytes) m (h .image .bytes)
+calledBy (run n) h m = runCall n (h .core .bytes) m (h .image .bytes)
 
--- the registers then are those in that record. A record of another length has none: registers and window are as they were
+-- the registers then are those in the record that it leaves. A record of another length has none: registers and window are as they were
 abbrev pub leaves : HostCall → State → State
 leaves h s =
-    let l = leftBy (h .kind) h (s .memory) in
+    let l = calledBy (h .kind) h (s .memory) in
     state (cond (isRecord (h .core .bytes)) (registersIn (l .core)) (s .registers)) (l .memory)
 
 abbrev pub leavesAll : List HostCall → State → State

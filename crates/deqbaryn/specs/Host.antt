@@ -13,10 +13,8 @@ use Rattle.inputs.specs.Checks.{startVerdict}
 use Rattle.inputs.specs.Rules.{StepSays, StartSays}
 use Rattle.machine.specs.Step.{verdictIn, StepOf, stepOf}
 use Rattle.machine.specs.Run.{RunOf, runOf}
-use Rattle.permits.specs.Permits.{fetchOfStep, dataOfStep, PermitSays}
 use Rattle.machine.specs.declared.answer.Outcome.{Outcome}
 use Rattle.machine.specs.declared.answer.Outcome.the-variants.{Made, Stopped, Refused}
-use Rattle.permits.specs.declared.Permit.{Permit}
 use Rattle.records.specs.CoreRecord.{registersIn, requestsIn, rangesOf, storedIn}
 use Rattle.answers.specs.Answers.{permitsNumber, outcomeAnswer, wrongLength, verdictAnswer}
 
@@ -34,13 +32,14 @@ startAnswer bytes m img = cond (isRecord bytes) (startOn (registersIn bytes) m i
 abbrev pub StartTells : List ℕ → Memory → List ℕ → ℕ → Type 0
 StartTells bytes m img n = length bytes ≡ 616 → (let r = registersIn bytes in Tells verdictAnswer (StartSays m img (pc r) (fcx r) (pcxi r)) n)
 
--- ---- what a step or a run leaves
-pub record Left : Type 0 where
+-- ---- a step or a run: its answer, and what it leaves of the record and the window
+pub record Called : Type 0 where
+  pub answer : ℕ
   pub core : List ℕ
   pub memory : Memory
 
-abbrev pub left : List ℕ → Memory → Left
-left bytes m = record { core = bytes; memory = m }
+abbrev pub called : ℕ → List ℕ → Memory → Called
+called n bytes m = record { answer = n; core = bytes; memory = m }
 
 -- the record after a step: a refusal and a stop leave it as it was
 abbrev pub stepStored : Outcome → Registers → List ℕ → List ℕ → List ℕ
@@ -58,26 +57,12 @@ runStored (Refused x) r xs bytes = bytes
 abbrev pub stepOn : List ℕ → Memory → List ℕ → StepOf
 stepOn bytes m img = stepOf img (registersIn bytes) (requestsIn bytes) (rangesOf bytes) m
 
-abbrev pub afterStep : StepOf → List ℕ → Left
-afterStep s bytes = left (stepStored (s .outcome) (s .registers) (s .requests) bytes) (s .memory)
+-- the outcome, with the ranges that permitted its fetch and its data access
+abbrev pub stepCalled : StepOf → List ℕ → Called
+stepCalled s bytes = called (outcomeAnswer (s .outcome) (permitsNumber (s .permits)) 0) (stepStored (s .outcome) (s .registers) (s .requests) bytes) (s .memory)
 
-abbrev pub stepLeft : List ℕ → Memory → List ℕ → Left
-stepLeft bytes m img = cond (isRecord bytes) (afterStep (stepOn bytes m img) bytes) (left bytes m)
-
--- the outcome, with the permitting ranges, which are free: those of the fetch and of the data access
-pub record StepAnswer (bytes : List ℕ) (m : Memory) (img : List ℕ) (n : ℕ) : Type 0 where
-  pub fetch : Permit
-  pub access : Permit
-  pub fetch-says : PermitSays (registersIn bytes) (rangesOf bytes) (fetchOfStep img (registersIn bytes) (requestsIn bytes) m) fetch
-  pub access-says : PermitSays (registersIn bytes) (rangesOf bytes) (dataOfStep img (registersIn bytes) (requestsIn bytes) (rangesOf bytes) m) access
-  pub is : n ≡ outcomeAnswer (stepOn bytes m img .outcome) (permitsNumber fetch access) 0
-
-abbrev pub StepAnswersBy : Bool → List ℕ → Memory → List ℕ → ℕ → Type 0
-StepAnswersBy true bytes m img n = StepAnswer bytes m img n
-StepAnswersBy false bytes m img n = n ≡ wrongLength
-
-abbrev pub StepAnswers : List ℕ → Memory → List ℕ → ℕ → Type 0
-StepAnswers bytes m img n = StepAnswersBy (isRecord bytes) bytes m img n
+abbrev pub stepCall : List ℕ → Memory → List ℕ → Called
+stepCall bytes m img = cond (isRecord bytes) (stepCalled (stepOn bytes m img) bytes) (called wrongLength bytes m)
 
 -- refused exactly where the rules 1 to 4 say so, and else made or stopped
 abbrev pub StepTells : List ℕ → Memory → List ℕ → Type 0
@@ -91,18 +76,12 @@ StepHolds bytes m img after = length bytes ≡ 616 → registersIn after ≡ ste
 abbrev pub runOn : ℕ → List ℕ → Memory → List ℕ → RunOf
 runOn n bytes m img = runOf n img (registersIn bytes) (requestsIn bytes) (rangesOf bytes) m
 
-abbrev pub afterRun : RunOf → List ℕ → Left
-afterRun v bytes = left (runStored (v .outcome) (v .registers) (v .requests) bytes) (v .memory)
-
-abbrev pub runLeft : ℕ → List ℕ → Memory → List ℕ → Left
-runLeft n bytes m img = cond (isRecord bytes) (afterRun (runOn n bytes m img) bytes) (left bytes m)
-
 -- the last step's outcome, with the steps made
-abbrev pub ranAnswer : RunOf → ℕ
-ranAnswer v = outcomeAnswer (v .outcome) 0 (v .made)
+abbrev pub runCalled : RunOf → List ℕ → Called
+runCalled v bytes = called (outcomeAnswer (v .outcome) 0 (v .made)) (runStored (v .outcome) (v .registers) (v .requests) bytes) (v .memory)
 
-abbrev pub runAnswer : ℕ → List ℕ → Memory → List ℕ → ℕ
-runAnswer n bytes m img = cond (isRecord bytes) (ranAnswer (runOn n bytes m img)) wrongLength
+abbrev pub runCall : ℕ → List ℕ → Memory → List ℕ → Called
+runCall n bytes m img = cond (isRecord bytes) (runCalled (runOn n bytes m img) bytes) (called wrongLength bytes m)
 
 -- refused exactly where the rules 1 to 4 say so
 abbrev pub RunTells : ℕ → List ℕ → Memory → List ℕ → Type 0
@@ -113,5 +92,5 @@ abbrev pub RunHolds : ℕ → List ℕ → Memory → List ℕ → List ℕ → 
 RunHolds n bytes m img after = length bytes ≡ 616 → registersIn after ≡ runOn n bytes m img .registers
 
 -- where no step is made, record and window are as they were, byte for byte
-abbrev pub UnmadeKeeps : ℕ → List ℕ → Memory → List ℕ → Left → Type 0
-UnmadeKeeps n bytes m img after = runOn n bytes m img .made ≡ 0 → after ≡ left bytes m
+abbrev pub UnmadeKeeps : ℕ → List ℕ → Memory → List ℕ → List ℕ → Memory → Type 0
+UnmadeKeeps n bytes m img after w = runOn n bytes m img .made ≡ 0 → (after ≡ bytes) × (w ≡ m)

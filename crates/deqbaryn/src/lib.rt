@@ -17,7 +17,7 @@ use series::start;
 ghost use mathlib.Core.Path.{_≡_};
 ghost use lib.ListN.{length};
 ghost use Rattle.memory.specs.Memory.{memory};
-ghost use Rattle.deqbaryn.specs.Host.{startAnswer, StartTells, stepStored, runStored, left, stepLeft, runLeft, StepAnswers, StepTells, StepHolds, runAnswer, RunTells, RunHolds, UnmadeKeeps};
+ghost use Rattle.deqbaryn.specs.Host.{startAnswer, StartTells, stepStored, runStored, called, stepCall, StepTells, StepHolds, runCall, RunTells, RunHolds, UnmadeKeeps};
 ghost use Rattle.deqbaryn.specs.Calls.{AcceptedFollows};
 
 // Whether the start is accepted, with PC, FCX and PCXI of the record.
@@ -61,8 +61,7 @@ fn store_run(core: &mut [u8], outcome: Outcome, registers: Registers, requests: 
 
 #[no_mangle]
 pub extern "C" fn deqbaryn_step(core: &mut [u8], base: u32, window: &mut [u8], image: &[u8]) -> u64
-    ensures { λ _. ⌜ left (now (core .exit)) (memory base (now (window .exit))) ≡ stepLeft (now (core .entry)) (memory base (now (window .entry))) (now (image .entry)) ⌝ }
-    ensures { λ r. ⌜ StepAnswers (now (core .entry)) (memory base (now (window .entry))) (now (image .entry)) r ⌝ }
+    ensures { λ r. ⌜ called r (now (core .exit)) (memory base (now (window .exit))) ≡ stepCall (now (core .entry)) (memory base (now (window .entry))) (now (image .entry)) ⌝ }
     ensures { λ _. ⌜ StepTells (now (core .entry)) (memory base (now (window .entry))) (now (image .entry)) ⌝ }
     ensures { λ _. ⌜ StepHolds (now (core .entry)) (memory base (now (window .entry))) (now (image .entry)) (now (core .exit)) ⌝ }
 {
@@ -76,10 +75,9 @@ pub extern "C" fn deqbaryn_step(core: &mut [u8], base: u32, window: &mut [u8], i
     let outcome = s.outcome;
     let after = s.registers;
     let requests = s.requests;
-    let fetch = s.fetch;
-    let access = s.data;
+    let named = s.permits;
     store_step(core, outcome, after, requests);
-    outcome_answer(outcome, permits(fetch, access), 0)
+    outcome_answer(outcome, permits(named), 0)
 }
 
 #[no_mangle]
@@ -90,11 +88,10 @@ pub extern "C" fn deqbaryn_run(
     image: &[u8],
     n: u32,
 ) -> u64
-    ensures { λ _. ⌜ left (now (core .exit)) (memory base (now (window .exit))) ≡ runLeft n (now (core .entry)) (memory base (now (window .entry))) (now (image .entry)) ⌝ }
-    ensures { λ r. ⌜ r ≡ runAnswer n (now (core .entry)) (memory base (now (window .entry))) (now (image .entry)) ⌝ }
+    ensures { λ r. ⌜ called r (now (core .exit)) (memory base (now (window .exit))) ≡ runCall n (now (core .entry)) (memory base (now (window .entry))) (now (image .entry)) ⌝ }
     ensures { λ _. ⌜ RunTells n (now (core .entry)) (memory base (now (window .entry))) (now (image .entry)) ⌝ }
     ensures { λ _. ⌜ RunHolds n (now (core .entry)) (memory base (now (window .entry))) (now (image .entry)) (now (core .exit)) ⌝ }
-    ensures { λ _. ⌜ UnmadeKeeps n (now (core .entry)) (memory base (now (window .entry))) (now (image .entry)) (left (now (core .exit)) (memory base (now (window .exit)))) ⌝ }
+    ensures { λ _. ⌜ UnmadeKeeps n (now (core .entry)) (memory base (now (window .entry))) (now (image .entry)) (now (core .exit)) (memory base (now (window .exit))) ⌝ }
 {
     if core.len() != 616 {
         return wrong_length();

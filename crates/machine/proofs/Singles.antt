@@ -2,7 +2,7 @@
 -- Assumes nothing.
 use Prim.Native.Nat.{ℕ}
 use native.Mathlib.Omega.{arith}
-use mathlib.Core.Path.{_≡_, refl, ap, _∙_}
+use mathlib.Core.Path.{_≡_, refl, sym, ap, _∙_}
 use mathlib.Core.List.{List}
 use Rattle.words.specs.Exactly.{Exactly}
 use Rattle.memory.specs.Memory.{Memory}
@@ -19,6 +19,8 @@ use Rattle.inputs.proofs.Verdicts.{step-exactly}
 use Rattle.events.specs.declared.event.Ending.{Ending}
 use Rattle.events.specs.declared.event.Ending.the-variants as ending
 use Rattle.decisions.specs.Phases.{oneOf}
+use Rattle.permits.specs.Permits.{noPermits, permitsOf}
+use Rattle.permits.specs.declared.Permits.{Permits}
 use Rattle.machine.specs.Step.{outcomeOf, verdictIn, StepOf, stepped, acceptedBy, steppedBy, stepOf}
 use Rattle.machine.specs.Inner.{Ready}
 use Rattle.machine.proofs.Turns.{accepted-step, ready-next}
@@ -26,22 +28,33 @@ use Rattle.machine.specs.Run.{RunOf, ran, onward, runFrom, runOf, Refuse
 use Rattle.machine.specs.declared.answer.Outcome.{Outcome}
 use Rattle.machine.specs.declared.answer.Outcome.the-variants as outcome
 
--- a run's answer without the steps made
-abbrev pub strip : RunOf → StepOf
-strip v = stepped (v .outcome) (v .registers) (v .requests) (v .memory)
+-- a run's answer without the steps made, as a step's that names these ranges
+abbrev strip : Permits → RunOf → StepOf
+strip p v = stepped (v .outcome) (v .registers) (v .requests) (v .memory) p
 
-onward-one : (o : Outcome) (k : ℕ) (s : StepOf) → o ≡ s .outcome → strip (onward o 0 s (ran (s .outcome) k (s .registers) (s .requests) (s .memory))) ≡ s
+onward-one : (o : Outcome) (k : ℕ) (s : StepOf) → o ≡ s .outcome → strip (s .permits) (onward o 0 s (ran (s .outcome) k (s .registers) (s .requests) (s .memory))) ≡ s
 onward-one (outcome.Made e) k s h = refl
 onward-one (outcome.Stopped x) k s h = rw h
 onward-one (outcome.Refused x) k s h = rw h
 
 module _ (img : List ℕ) (r : Registers) (xs : List ℕ) (rs : List Range) (m : Memory) where
-  pub one-step : strip (runFrom 1 img rs (outcome.Made event.Instruction) 0 r xs m) ≡ stepOf img r xs rs m
+  one-step : strip (stepOf img r xs rs m .permits) (runFrom 1 img rs (outcome.Made event.Instruction) 0 r xs m) ≡ stepOf img r xs rs m
   unfolding runFrom
   one-step = let s = stepOf img r xs rs m in onward-one (s .outcome) _ s refl
 
+  accepted-permits : (p : Permits) (e : Ending) (q : Registers) (n : Memory) → acceptedBy r xs m p e q n .permits ≡ p
+  accepted-permits p (ending.Made e) q n = refl
+  accepted-permits p (ending.Stopped s) q n = refl
+
+  -- of an accepted machine: the run of one, and the ranges named
+  pub accepted-one : stepVerdict m img (pc r) ≡ Accepted → {v : RunOf} → v ≡ runFrom 1 img rs (outcome.Made event.Instruction) 0 r xs m → {p : Permits} → p ≡ permitsOf img (r .a) (r .core) xs rs → strip p v ≡ stepOf img r xs rs m
+  accepted-one e {v} is {p} named =
+      let x = oneOf img r xs rs m in
+      let q : stepOf img r xs rs m .permits ≡ p = ap (λ (s : StepOf). s .permits) (accepted-step img r xs rs m e) ∙ accepted-permits _ (x .ending) (x .registers) (x .memory) ∙ sym named in
+      ap (λ (q : Permits). strip q v) (sym q) ∙ ap (strip (stepOf img r xs rs m .permits)) is ∙ one-step
+
   module _ (x : Refusal) (e : stepVerdict m img (pc r) ≡ Refused x) where
-    pub step-refused : stepOf img r xs rs m ≡ stepped (outcome.Refused x) r xs m
+    pub step-refused : stepOf img r xs rs m ≡ stepped (outcome.Refused x) r xs m noPermits
     unfolding stepOf
     step-refused = rw e
 
@@ -54,9 +67,9 @@ module _ (img : List ℕ) (r : Registers) (xs : List ℕ) (rs : List Range) (m :
   run-accepted n e = rw e
 
   -- what the outcome says of the rules
-  accepted-verdict : (e : Ending) (q : Registers) (n : Memory) → verdictIn (acceptedBy r xs m e q n .outcome) ≡ Accepted
-  accepted-verdict (ending.Made e) q n = refl
-  accepted-verdict (ending.Stopped s) q n = refl
+  accepted-verdict : (p : Permits) (e : Ending) (q : Registers) (n : Memory) → verdictIn (acceptedBy r xs m p e q n .outcome) ≡ Accepted
+  accepted-verdict p (ending.Made e) q n = refl
+  accepted-verdict p (ending.Stopped s) q n = refl
 
   step-verdict : verdictIn (stepOf img r xs rs m .outcome) ≡ stepVerdict m img (pc r)
   unfolding stepOf
@@ -64,9 +77,9 @@ module _ (img : List ℕ) (r : Registers) (xs : List ℕ) (rs : List Range) (m :
     where
       by : (v : Verdict) → verdictIn (steppedBy img r xs rs m v .outcome) ≡ v
       by (Refused x) = refl
-      by Accepted = let v = oneOf img r xs rs m in accepted-verdict (v .ending) (v .registers) (v .memory)
+      by Accepted = let v = oneOf img r xs rs m in accepted-verdict _ (v .ending) (v .registers) (v .memory)
 
-  pub step-told : {o : Outcome} {q : Registers} {ys : List ℕ} {n : Memory} → stepped o q ys n ≡ stepOf img r xs rs m → Exactly (StepSays m img (pc r)) (verdictIn o)
+  pub step-told : {o : Outcome} {q : Registers} {ys : List ℕ} {n : Memory} {p : Permits} → stepped o q ys n p ≡ stepOf img r xs rs m → Exactly (StepSays m img (pc r)) (verdictIn o)
   step-told {o} e = step-exactly m img (pc r) (verdictIn o) (ap (λ (s : StepOf). verdictIn (s .outcome)) e ∙ step-verdict) .1
 
 -- an ending is that of an accepted machine
@@ -87,8 +100,8 @@ not-refused (ending.Stopped s) h x p = let z : _≡_ {A = ℕ} 0 1 = cc in omega
 pub ready-after : {img : List ℕ} {r : Registers} {m : Memory} → Ready img r m → (xs : List ℕ) (rs : List Range) → (let s = stepOf img r xs rs m in Ready img (s .registers) (s .memory))
 ready-after {img} {r} {m} y xs rs =
     let v = oneOf img r xs rs m in
-    rw (accepted-step img r xs rs m (y .accepted)) (by (v .ending) (v .registers) (v .memory) (ready-next y xs rs v refl))
+    rw (accepted-step img r xs rs m (y .accepted)) (by _ (v .ending) (v .registers) (v .memory) (ready-next y xs rs v refl))
   where
-    by : (e : Ending) (q : Registers) (n : Memory) → Ready img q n → (let s = acceptedBy r xs m e q n in Ready img (s .registers) (s .memory))
-    by (ending.Made e) q n z = z
-    by (ending.Stopped s) q n z = y
+    by : (p : Permits) (e : Ending) (q : Registers) (n : Memory) → Ready img q n → (let s = acceptedBy r xs m p e q n in Ready img (s .registers) (s .memory))
+    by p (ending.Made e) q n z = z
+    by p (ending.Stopped s) q n z = y

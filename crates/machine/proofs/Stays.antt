@@ -17,6 +17,7 @@ use Rattle.inputs.specs.declared.verdict.Verdict.{Verdict}
 use Rattle.inputs.specs.declared.verdict.Verdict.the-variants as verdict
 use Rattle.decisions.specs.Phases.{oneOf, requestsOf}
 use Rattle.decisions.specs.Valid.{Valid, Bytes}
+use Rattle.permits.specs.declared.Permits.{Permits}
 use Rattle.decisions.proofs.Steps.{one-kept}
 use Rattle.machine.specs.Step.{StepOf, acceptedBy, steppedBy, stepOf}
 use Rattle.machine.specs.Run.{RunOf, onward, runFrom, runBy, runOf, RefusedKeeps}
@@ -37,15 +38,15 @@ module _ {img : List ℕ} (image : Bytes img) (rs : List Range) where
   unfolding stepOf
   step-bounds {r} {m} h xs = by-verdict (stepVerdict m img (pc r))
     where
-      by-ending : (e : Ending) (q : Registers) (n : Memory) → InBounds q n → (let s = acceptedBy r xs m e q n in InBounds (s .registers) (s .memory))
-      by-ending (ending.Made e) q n k = k
-      by-ending (ending.Stopped s) q n k = h
+      by-ending : (p : Permits) (e : Ending) (q : Registers) (n : Memory) → InBounds q n → (let s = acceptedBy r xs m p e q n in InBounds (s .registers) (s .memory))
+      by-ending p (ending.Made e) q n k = k
+      by-ending p (ending.Stopped s) q n k = h
 
       by-verdict : (v : Verdict) → (let s = steppedBy img r xs rs m v in InBounds (s .registers) (s .memory))
       by-verdict verdict.Accepted =
           let v = oneOf img r xs rs m in
           let k = one-kept (h .valid) m (h .bytes) image xs rs in
-          by-ending (v .ending) (v .registers) (v .memory) (record { valid = k .valid; bytes = k .bytes })
+          by-ending _ (v .ending) (v .registers) (v .memory) (record { valid = k .valid; bytes = k .bytes })
       by-verdict (verdict.Refused x) = h
 
   -- ---- a run

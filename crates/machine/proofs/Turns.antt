@@ -26,7 +26,8 @@ use Rattle.inputs.specs.declared.verdict.Verdict.{Verdict}
 use Rattle.inputs.specs.declared.verdict.Verdict.the-variants.{Accepted, Refused}
 use Rattle.decisions.specs.Phases.{oneOf, instructionOf, interrupted, requestsOf}
 use Rattle.decisions.proofs.Steps.{Kept, one-kept}
-use Rattle.machine.specs.Step.{acceptedOf, stepOf}
+use Rattle.permits.specs.Permits.{permitsOf}
+use Rattle.machine.specs.Step.{stepped, acceptedOf, stepOf}
 use Rattle.machine.specs.Run.{ran, runFrom}
 use Rattle.machine.specs.Inner.{Ready}
 use Rattle.machine.specs.declared.answer.Outcome.{Outcome}
@@ -55,10 +56,10 @@ module _ {img : List ℕ} {r : Registers} {m : Memory} (y : Ready img r m) (xs :
         bytes = kept .bytes;
       }
 
-  step-made : (e : Event) → v .ending ≡ ending.Made e → stepOf img r xs rs m ≡ record { outcome = Made e; registers = v .registers; requests = requestsOf r xs; memory = v .memory }
+  step-made : (e : Event) → v .ending ≡ ending.Made e → stepOf img r xs rs m ≡ stepped (Made e) (v .registers) (requestsOf r xs) (v .memory) (permitsOf img (r .a) (r .core) xs rs)
   step-made e h = accepted-step img r xs rs m (y .accepted) ∙ rw (← is, h)
 
-  step-stopped : (s : Stop) → v .ending ≡ ending.Stopped s → stepOf img r xs rs m ≡ record { outcome = Stopped s; registers = v .registers; requests = xs; memory = v .memory }
+  step-stopped : (s : Stop) → v .ending ≡ ending.Stopped s → stepOf img r xs rs m ≡ stepped (Stopped s) (v .registers) xs (v .memory) (permitsOf img (r .a) (r .core) xs rs)
   step-stopped s h = accepted-step img r xs rs m (y .accepted) ∙ rw (← is, h, kept .leaves s h .0, kept .leaves s h .1)
 
   pub run-made : (left made : ℕ) (last : Outcome) (e : Event) → v .ending ≡ ending.Made e

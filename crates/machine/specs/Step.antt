@@ -1,4 +1,4 @@
--- A step: refused by the rules 1 to 4, or stopped, with all as before; or made, with an event.
+-- A step: refused by the rules 1 to 4, or stopped, with all as before; or made, with an event. It names the ranges that permitted its accesses, where it is not refused.
 use Prim.Native.Nat.{ℕ}
 use mathlib.Core.List.{List}
 use Rattle.memory.specs.Memory.{Memory}
@@ -11,6 +11,8 @@ use Rattle.inputs.specs.Checks.{stepVerdict}
 use Rattle.inputs.specs.declared.verdict.Verdict.{Verdict}
 use Rattle.inputs.specs.declared.verdict.Verdict.the-variants as verdict
 use Rattle.decisions.specs.Phases.{oneOf, requestsOf}
+use Rattle.permits.specs.Permits.{noPermits, permitsOf}
+use Rattle.permits.specs.declared.Permits.{Permits}
 use Rattle.machine.specs.declared.answer.Outcome.{Outcome}
 use Rattle.machine.specs.declared.answer.Outcome.the-variants.{Made, Stopped, Refused}
 
@@ -24,26 +26,27 @@ verdictIn (Made e) = verdict.Accepted
 verdictIn (Stopped s) = verdict.Accepted
 verdictIn (Refused x) = verdict.Refused x
 
--- the outcome, and registers, requests and memory after the step
+-- the outcome; registers, requests and memory after the step; and the ranges that permitted its fetch and its data access
 pub record StepOf : Type 0 where
   pub outcome : Outcome
   pub registers : Registers
   pub requests : List ℕ
   pub memory : Memory
+  pub permits : Permits
 
-abbrev pub stepped : Outcome → Registers → List ℕ → Memory → StepOf
-stepped o r xs m = record { outcome = o; registers = r; requests = xs; memory = m }
+abbrev pub stepped : Outcome → Registers → List ℕ → Memory → Permits → StepOf
+stepped o r xs m p = record { outcome = o; registers = r; requests = xs; memory = m; permits = p }
 
--- a stop hands no new state on
-abbrev pub acceptedBy : Registers → List ℕ → Memory → Ending → Registers → Memory → StepOf
-acceptedBy r xs m (ending.Stopped s) q n = stepped (Stopped s) r xs m
-acceptedBy r xs m (ending.Made e) q n = stepped (Made e) q (requestsOf r xs) n
+-- a stop hands no new state on, but names the ranges
+abbrev pub acceptedBy : Registers → List ℕ → Memory → Permits → Ending → Registers → Memory → StepOf
+acceptedBy r xs m p (ending.Stopped s) q n = stepped (Stopped s) r xs m p
+acceptedBy r xs m p (ending.Made e) q n = stepped (Made e) q (requestsOf r xs) n p
 
 abbrev pub acceptedOf : List ℕ → Registers → List ℕ → List Range → Memory → StepOf
-acceptedOf img r xs rs m = let v = oneOf img r xs rs m in acceptedBy r xs m (v .ending) (v .registers) (v .memory)
+acceptedOf img r xs rs m = let v = oneOf img r xs rs m in acceptedBy r xs m (permitsOf img (r .a) (r .core) xs rs) (v .ending) (v .registers) (v .memory)
 
 abbrev pub steppedBy : List ℕ → Registers → List ℕ → List Range → Memory → Verdict → StepOf
-steppedBy img r xs rs m (verdict.Refused x) = stepped (Refused x) r xs m
+steppedBy img r xs rs m (verdict.Refused x) = stepped (Refused x) r xs m noPermits
 steppedBy img r xs rs m verdict.Accepted = acceptedOf img r xs rs m
 
 -- img is the image, xs the request words of the 16 sources, rs the 32 ranges

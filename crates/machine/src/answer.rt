@@ -4,7 +4,7 @@ use events::event::Ending;
 use events::event::Event;
 use events::event::Stop;
 use inputs::verdict::Refusal;
-use permits::Permit;
+use permits::Permits;
 use registers::Registers;
 ghost use mathlib.Core.Path.{_≡_};
 ghost use Rattle.machine.specs.Step.{outcomeOf};
@@ -20,8 +20,7 @@ pub struct Stepped {
     pub registers: Registers,
     pub requests: [u32; 16],
     pub outcome: Outcome,
-    pub fetch: Permit,
-    pub data: Permit,
+    pub permits: Permits,
 }
 
 pub struct Ran {

@@ -8,8 +8,9 @@ use crate::run_steps::run_steps;
 use areas::link::Address;
 use inputs::checks::try_step;
 use inputs::verdict::Verdict;
-use permits::Permit;
+use permits::Permits;
 use permits::permits_of;
+use protection::range::Permit;
 use protection::range::Range;
 use protection::range::flat;
 use registers::PC;
@@ -21,7 +22,6 @@ ghost use Rattle.registers.specs.Registers.{pc};
 ghost use Rattle.inputs.specs.Rules.{StepSays};
 ghost use Rattle.machine.specs.Step.{verdictIn, stepped, stepOf};
 ghost use Rattle.machine.specs.Run.{ran, runOf, RefusedKeeps};
-ghost use Rattle.permits.specs.Permits.{fetchOfStep, dataOfStep, PermitSays};
 ghost use Rattle.machine.specs.Inner.{Ready};
 
 // A step of an accepted machine, for a caller that has tried the rules 1 to 4 once. The machine stays accepted.
@@ -34,9 +34,7 @@ pub fn step_accepted(
     ranges: [Range; 32],
 ) -> Stepped
     requires { ⌜ Ready (now image) registers (memory (base .0) (now window)) ⌝ }
-    ensures { λ r. ⌜ stepped (r .outcome) (r .registers) (r .requests) (memory (base .0) (now (window .exit))) ≡ stepOf (now (image .entry)) registers requests ranges (memory (base .0) (now (window .entry))) ⌝ }
-    ensures { λ r. ⌜ PermitSays registers ranges (fetchOfStep (now (image .entry)) registers requests (memory (base .0) (now (window .entry)))) (r .fetch) ⌝ }
-    ensures { λ r. ⌜ PermitSays registers ranges (dataOfStep (now (image .entry)) registers requests ranges (memory (base .0) (now (window .entry)))) (r .data) ⌝ }
+    ensures { λ r. ⌜ stepped (r .outcome) (r .registers) (r .requests) (memory (base .0) (now (window .exit))) (r .permits) ≡ stepOf (now (image .entry)) registers requests ranges (memory (base .0) (now (window .entry))) ⌝ }
     ensures { λ r. ⌜ Ready (now (image .entry)) (r .registers) (memory (base .0) (now (window .exit))) ⌝ }
 {
     let words = flat(ranges);
@@ -57,8 +55,6 @@ pub fn step_accepted(
         1,
     );
     let ending = w.ending;
-    let fetch = p.fetch;
-    let data = p.data;
     Stepped {
         registers: Registers {
             d: d,
@@ -67,8 +63,7 @@ pub fn step_accepted(
         },
         requests: xs,
         outcome: outcome_of(ending),
-        fetch: fetch,
-        data: data,
+        permits: p,
     }
 }
 
@@ -81,9 +76,7 @@ pub fn step(
     requests: [u32; 16],
     ranges: [Range; 32],
 ) -> Stepped
-    ensures { λ r. ⌜ stepped (r .outcome) (r .registers) (r .requests) (memory (base .0) (now (window .exit))) ≡ stepOf (now (image .entry)) registers requests ranges (memory (base .0) (now (window .entry))) ⌝ }
-    ensures { λ r. ⌜ PermitSays registers ranges (fetchOfStep (now (image .entry)) registers requests (memory (base .0) (now (window .entry)))) (r .fetch) ⌝ }
-    ensures { λ r. ⌜ PermitSays registers ranges (dataOfStep (now (image .entry)) registers requests ranges (memory (base .0) (now (window .entry)))) (r .data) ⌝ }
+    ensures { λ r. ⌜ stepped (r .outcome) (r .registers) (r .requests) (memory (base .0) (now (window .exit))) (r .permits) ≡ stepOf (now (image .entry)) registers requests ranges (memory (base .0) (now (window .entry))) ⌝ }
     ensures { λ r. ⌜ Exactly (StepSays (memory (base .0) (now (window .entry))) (now (image .entry)) (pc registers)) (verdictIn (r .outcome)) ⌝ }
 {
     match try_step(base, window, image, registers.core[PC]) {
@@ -91,8 +84,10 @@ pub fn step(
             registers: registers,
             requests: requests,
             outcome: Outcome::Refused(x),
-            fetch: Permit::Unnamed,
-            data: Permit::Unnamed,
+            permits: Permits {
+                fetch: Permit::Unnamed,
+                data: Permit::Unnamed,
+            },
         },
         Verdict::Accepted => { step_accepted(base, window, image, registers, requests, ranges) }
     }

@@ -1,25 +1,29 @@
--- The permits that a step answers have their properties.
+-- The range named for an access, case by case; and that it is the lowest which permits it.
 -- Assumes nothing.
 use Prim.Native.Nat.{ℕ, _+_, _≤_, _<_}
-use mathlib.Core.Path.{_≡_, refl}
-use mathlib.Core.Bool.{Bool, true, false, not, _&&_}
+use mathlib.Core.Path.{_≡_, refl, sym, ap, _∙_}
+use mathlib.Core.Bool.{Bool, true, false, cond, not, _&&_}
 use mathlib.Core.List.{List}
+use mathlib.Core.Logic.{_⊎_, inl, inr}
 use lib.ListN.{getD}
 use borrow.Author.Tests.{le-leb, lt-leb}
-use Rattle.memory.specs.Memory.{Memory}
+use Rattle.words.specs.Exactly.{Exactly}
+use Rattle.words.proofs.Answers.{exactly}
+use Rattle.words.proofs.Truth.{never}
 use Rattle.memory.specs.Word.{wordAt}
 use Rattle.fields.specs.Psw.{PSW·PRS}
 use Rattle.fields.specs.Syscon.{SYSCON·PROTEN}
-use Rattle.registers.specs.Registers.{pc, icr, plusOf}
-use Rattle.registers.specs.declared.Registers.{Registers}
+use Rattle.registers.specs.Registers.{plusOf}
 use Rattle.events.specs.declared.trap.Trap.{Trap}
-use Rattle.protection.specs.Range.{permitted, PermittedBy}
-use Rattle.protection.specs.Access.{checkOf, peripheral}
+use Rattle.protection.specs.Range.{lowestOf, Lowest}
+use Rattle.protection.specs.Access.{checkOf, asks, peripheral}
 use Rattle.protection.specs.declared.range.Range.{Range}
 use Rattle.protection.specs.declared.range.Right.{Right}
 use Rattle.protection.specs.declared.range.Right.the-variants as right
+use Rattle.protection.specs.declared.range.Permit.{Permit}
+use Rattle.protection.specs.declared.range.Permit.the-variants.{Unnamed}
 use Rattle.protection.specs.declared.access.Check.the-variants.{Passes, Fails}
-use Rattle.protection.proofs.Searches.{permitted-by}
+use Rattle.protection.proofs.Searches.{lowest-says, lowest-is}
 use Rattle.interrupts.specs.Sources.{bestOf, takes}
 use Rattle.operations.specs.Operations.{operationOf, accessOf}
 use Rattle.operations.specs.declared.Access.{Access as DataAccess}
@@ -27,90 +31,90 @@ use Rattle.operations.specs.declared.Access.the-variants as data-access
 use Rattle.image.specs.Fetch.{instructionAt, fetchOf}
 use Rattle.image.specs.declared.fetch.Instruction.{Instruction}
 use Rattle.image.specs.declared.fetch.Fetched.the-variants.{Found, Nothing}
-use Rattle.inputs.specs.Checks.{stepVerdict}
-use Rattle.inputs.specs.declared.verdict.Refusal.{Refusal}
-use Rattle.inputs.specs.declared.verdict.Verdict.the-variants.{Accepted, Refused}
-use Rattle.permits.specs.Permits.{Access, none, access, dataBy, dataIn, dataAt, fetchAsked, dataAsked, fetchOfStep, dataOfStep, PermitSays}
-use Rattle.permits.specs.declared.Permit.{Permit}
-use Rattle.permits.specs.declared.Permit.the-variants.{Unnamed, By}
+use Rattle.permits.specs.Permits.{Access, none, access, dataBy, dataIn, dataAt, fetchAsked, dataAsked, permitOf, permits, noPermits, permitsOf, Named}
+use Rattle.permits.specs.declared.Permits.{Permits}
 
-module _ (r : Registers) (rs : List Range) where
+module _ (core : List ℕ) (rs : List Range) where
+  pub of-none : Unnamed ≡ permitOf core rs none
+  unfolding permitOf
+  of-none = refl
+
   -- ---- one access
   module _ (right : Right) (address : ℕ) where
-    pub of-peripherals : 0xE000_0000 ≤ address → PermitSays r rs (access right address) Unnamed
-    of-peripherals h = rw (le-leb _ _ h) refl
+    pub of-peripherals : 0xE000_0000 ≤ address → Unnamed ≡ permitOf core rs (access right address)
+    unfolding permitOf
+    of-peripherals h = rw (le-leb _ _ h)
 
-    pub not-asked : SYSCON·PROTEN (getD (r .core) 9 0) ≡ false → PermitSays r rs (access right address) Unnamed
+    pub not-asked : SYSCON·PROTEN (getD core 9 0) ≡ false → Unnamed ≡ permitOf core rs (access right address)
+    unfolding permitOf
     not-asked p = rw p (by (peripheral address))
       where
-        by : (b : Bool) → ((not b && false) && permitted rs (PSW·PRS (getD (r .core) 1 0)) right address) ≡ false
+        by : (b : Bool) → Unnamed ≡ cond (not b && false) (lowestOf rs (PSW·PRS (getD core 1 0)) right address) Unnamed
         by true = refl
         by false = refl
 
-    module _ (h : address < 0xE000_0000) (p : SYSCON·PROTEN (getD (r .core) 9 0) ≡ true) where
-      pub by-none : permitted rs (PSW·PRS (getD (r .core) 1 0)) right address ≡ false → PermitSays r rs (access right address) Unnamed
-      by-none d = rw (lt-leb _ _ h, p, d) refl
+    pub asked : address < 0xE000_0000 → SYSCON·PROTEN (getD core 9 0) ≡ true → lowestOf rs (PSW·PRS (getD core 1 0)) right address ≡ permitOf core rs (access right address)
+    unfolding permitOf
+    asked h p = rw (lt-leb _ _ h, p)
 
-      pub by-one : (k : ℕ) → PermittedBy rs (PSW·PRS (getD (r .core) 1 0)) right address k → PermitSays r rs (access right address) (By k)
-      by-one k b = (rw (lt-leb _ _ h, p, permitted-by rs right address _ k b) refl, b)
+    -- what is named says so, and nothing else does
+    says : (b : Bool) → asks core address ≡ b → Named core rs (access right address) (cond b (lowestOf rs (PSW·PRS (getD core 1 0)) right address) Unnamed)
+    says true e = inl (e, lowest-says rs right address (PSW·PRS (getD core 1 0)))
+    says false e = inr (e, refl)
+
+    only : (b : Bool) → asks core address ≡ b → (p : Permit) → Named core rs (access right address) p → p ≡ cond b (lowestOf rs (PSW·PRS (getD core 1 0)) right address) Unnamed
+    only true e p (inl h) = lowest-is rs right address (PSW·PRS (getD core 1 0)) p (h .1) .0
+    only true e p (inr h) = absurd (never (sym e ∙ h .0))
+    only false e p (inl h) = absurd (never (sym (h .0) ∙ e))
+    only false e p (inr h) = h .1
+
+  pub named : (a : Access) (p : Permit) → p ≡ permitOf core rs a → Exactly (Named core rs a) p
+  unfolding permitOf
+  named none p e = exactly (Named core rs none) Unnamed refl (λ x h. h) p e .1
+  named (access right address) p e =
+      exactly (Named core rs (access right address)) (permitOf core rs (access right address)) (says right address (asks core address) refl) (only right address (asks core address) refl) p e .1
 
   -- with protection off none is named
-  pub off : (a : Access) → SYSCON·PROTEN (getD (r .core) 9 0) ≡ false → PermitSays r rs a Unnamed
-  off none p = refl
+  off : (a : Access) → SYSCON·PROTEN (getD core 9 0) ≡ false → Unnamed ≡ permitOf core rs a
+  off none p = of-none
   off (access right address) p = not-asked right address p
 
   -- ---- the data access of the record at a byte of the image
-  module _ (img : List ℕ) (at pc address : ℕ) (is : address ≡ plusOf (getD (r .a) (getD img (at + 2) 0) 0) (wordAt img (at + 4))) where
-    data-by : (x : DataAccess) → x ≡ accessOf (operationOf (getD img at 0)) → (p : Permit) → PermitSays r rs (dataBy x address) p → PermitSays r rs (dataIn (instructionAt img at pc) r) p
+  module _ (a img : List ℕ) (at pc address : ℕ) (is : address ≡ plusOf (getD a (getD img (at + 2) 0) 0) (wordAt img (at + 4))) where
+    pub of-data : (x : DataAccess) → x ≡ accessOf (operationOf (getD img at 0)) → {p : Permit} → p ≡ permitOf core rs (dataBy x address) → p ≡ permitOf core rs (dataIn (instructionAt img at pc) a)
     unfolding instructionAt
-    data-by x e p h = rw (← e, ← is) h
+    of-data x e h = rw (← e, ← is) h
 
-    pub data-none : data-access.Nothing ≡ accessOf (operationOf (getD img at 0)) → PermitSays r rs (dataIn (instructionAt img at pc) r) Unnamed
-    data-none e = data-by data-access.Nothing e Unnamed refl
-
-    pub data-read : (p : Permit) → data-access.Read ≡ accessOf (operationOf (getD img at 0)) → PermitSays r rs (access right.Read address) p → PermitSays r rs (dataIn (instructionAt img at pc) r) p
-    data-read p e h = data-by data-access.Read e p h
-
-    pub data-write : (p : Permit) → data-access.Write ≡ accessOf (operationOf (getD img at 0)) → PermitSays r rs (access right.Write address) p → PermitSays r rs (dataIn (instructionAt img at pc) r) p
-    data-write p e h = data-by data-access.Write e p h
-
-  module _ (img : List ℕ) where
+  module _ (img a : List ℕ) where
     -- ---- of the instruction at PC
-    pub not-fetched : (t : Trap) → Fails t ≡ checkOf (r .core) rs right.Execute (pc r) → PermitSays r rs (dataAt img r rs) Unnamed
-    not-fetched t e = rw (← e) refl
+    pub not-fetched : (t : Trap) → Fails t ≡ checkOf core rs right.Execute (getD core 0 0) → Unnamed ≡ permitOf core rs (dataAt img a core rs)
+    unfolding permitOf
+    not-fetched t e = rw (← e)
 
-    pub no-record : Passes ≡ checkOf (r .core) rs right.Execute (pc r) → Nothing ≡ fetchOf img (pc r) → PermitSays r rs (dataAt img r rs) Unnamed
-    no-record e f = rw (← e, ← f) refl
+    module _ (e : Passes ≡ checkOf core rs right.Execute (getD core 0 0)) where
+      pub no-record : Nothing ≡ fetchOf img (getD core 0 0) → Unnamed ≡ permitOf core rs (dataAt img a core rs)
+      unfolding permitOf
+      no-record f = rw (← e, ← f)
 
-    pub of-record : (i : Instruction) (p : Permit) → Passes ≡ checkOf (r .core) rs right.Execute (pc r) → Found i ≡ fetchOf img (pc r) → PermitSays r rs (dataIn i r) p → PermitSays r rs (dataAt img r rs) p
-    of-record i p e f h = rw (← e, ← f) h
+      pub of-record : (i : Instruction) → Found i ≡ fetchOf img (getD core 0 0) → {p : Permit} → p ≡ permitOf core rs (dataIn i a) → p ≡ permitOf core rs (dataAt img a core rs)
+      of-record i f h = rw (← e, ← f) h
 
-    -- ---- where an interrupt is taken, and where none is
+    -- ---- of a step
     module _ (xs : List ℕ) where
-      pub taken-fetch : takes (icr r) (bestOf xs .level) ≡ true → PermitSays r rs (fetchAsked r xs) Unnamed
-      taken-fetch e = rw e refl
+      abbrev pub Both : Permits → Type 0
+      Both p = (p ≡ permitsOf img a core xs rs) × (Exactly (Named core rs (fetchAsked core xs)) (p .fetch) × Exactly (Named core rs (dataAsked img a core xs rs)) (p .data))
 
-      pub taken-data : takes (icr r) (bestOf xs .level) ≡ true → PermitSays r rs (dataAsked img r xs rs) Unnamed
-      taken-data e = rw e refl
+      both : (f d : Permit) → f ≡ permitOf core rs (fetchAsked core xs) → d ≡ permitOf core rs (dataAsked img a core xs rs) → Both (permits f d)
+      unfolding permitsOf
+      both f d p q = (ap (λ (x : Permit). permits x d) p ∙ ap (permits (permitOf core rs (fetchAsked core xs))) q, (named (fetchAsked core xs) f p, named (dataAsked img a core xs rs) d q))
 
-      pub quiet-fetch : (p : Permit) → takes (icr r) (bestOf xs .level) ≡ false → PermitSays r rs (access right.Execute (pc r)) p → PermitSays r rs (fetchAsked r xs) p
-      quiet-fetch p e h = rw e h
+      pub both-off : SYSCON·PROTEN (getD core 9 0) ≡ false → Both noPermits
+      both-off p = both Unnamed Unnamed (off (fetchAsked core xs) p) (off (dataAsked img a core xs rs) p)
 
-      pub quiet-data : (p : Permit) → takes (icr r) (bestOf xs .level) ≡ false → PermitSays r rs (dataAt img r rs) p → PermitSays r rs (dataAsked img r xs rs) p
-      quiet-data p e h = rw e h
+      -- where an interrupt is taken, and where none is
+      pub both-taken : takes (getD core 5 0) (bestOf xs .level) ≡ true → Both noPermits
+      unfolding permitOf
+      both-taken e = both Unnamed Unnamed (rw e) (rw e)
 
-      -- ---- of a step
-      module _ (m : Memory) where
-        module _ (e : stepVerdict m img (pc r) ≡ Accepted) where
-          pub accepted-fetch : (p : Permit) → PermitSays r rs (fetchAsked r xs) p → PermitSays r rs (fetchOfStep img r xs m) p
-          accepted-fetch p h = rw e h
-
-          pub accepted-data : (p : Permit) → PermitSays r rs (dataAsked img r xs rs) p → PermitSays r rs (dataOfStep img r xs rs m) p
-          accepted-data p h = rw e h
-
-        module _ (x : Refusal) (e : stepVerdict m img (pc r) ≡ Refused x) where
-          pub no-fetch : PermitSays r rs (fetchOfStep img r xs m) Unnamed
-          no-fetch = rw e refl
-
-          pub no-data : PermitSays r rs (dataOfStep img r xs rs m) Unnamed
-          no-data = rw e refl
+      pub both-quiet : takes (getD core 5 0) (bestOf xs .level) ≡ false → {f d : Permit} → f ≡ permitOf core rs (access right.Execute (getD core 0 0)) → d ≡ permitOf core rs (dataAt img a core rs) → Both (permits f d)
+      both-quiet e {f} {d} p q = both f d (rw e p) (rw e q)

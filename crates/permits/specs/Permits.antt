@@ -1,17 +1,19 @@
--- The permitting ranges, which stand by their properties: of set PRS, and permitting the access.
+-- The ranges that permit a step's fetch and its data access: of set PRS the lowest (02, point 2).
 use Prim.Native.Nat.{ℕ}
 use mathlib.Core.Path.{_≡_}
-use mathlib.Core.Bool.{Bool, true, false, cond, _&&_}
+use mathlib.Core.Bool.{true, false, cond}
 use mathlib.Core.List.{List}
+use mathlib.Core.Logic.{_⊎_}
+use lib.ListN.{getD}
 use Rattle.fields.specs.Psw.{PSW·PRS}
-use Rattle.memory.specs.Memory.{Memory}
-use Rattle.registers.specs.Registers.{pc, psw, icr}
-use Rattle.registers.specs.declared.Registers.{Registers}
-use Rattle.protection.specs.Range.{permitted, PermittedBy}
+use Rattle.registers.specs.Core.{PC, PSW, ICR}
+use Rattle.protection.specs.Range.{lowestOf, Lowest}
 use Rattle.protection.specs.Access.{checkOf, asks}
 use Rattle.protection.specs.declared.range.Range.{Range}
 use Rattle.protection.specs.declared.range.Right.{Right}
 use Rattle.protection.specs.declared.range.Right.the-variants.{Read, Write, Execute}
+use Rattle.protection.specs.declared.range.Permit.{Permit}
+use Rattle.protection.specs.declared.range.Permit.the-variants.{Unnamed}
 use Rattle.protection.specs.declared.access.Check.{Check}
 use Rattle.protection.specs.declared.access.Check.the-variants.{Passes, Fails}
 use Rattle.interrupts.specs.Sources.{bestOf, takes}
@@ -23,11 +25,7 @@ use Rattle.image.specs.declared.fetch.Instruction.{Instruction}
 use Rattle.image.specs.declared.fetch.Fetched.{Fetched}
 use Rattle.image.specs.declared.fetch.Fetched.the-variants.{Found, Nothing}
 use Rattle.accesses.specs.Load.{addressIn}
-use Rattle.inputs.specs.Checks.{stepVerdict}
-use Rattle.inputs.specs.declared.verdict.Verdict.{Verdict}
-use Rattle.inputs.specs.declared.verdict.Verdict.the-variants as verdict
-use Rattle.permits.specs.declared.Permit.{Permit}
-use Rattle.permits.specs.declared.Permit.the-variants.{Unnamed, By}
+use Rattle.permits.specs.declared.Permits.{Permits}
 
 -- an access that a step makes: a right and an address
 pub data Access : Type 0 where
@@ -40,49 +38,45 @@ dataBy data-access.Nothing address = none
 dataBy data-access.Read address = access Read address
 dataBy data-access.Write address = access Write address
 
-abbrev pub dataIn : Instruction → Registers → Access
-dataIn i r = dataBy (accessOf (i .op)) (addressIn i (r .a))
+abbrev pub dataIn : Instruction → List ℕ → Access
+dataIn i a = dataBy (accessOf (i .op)) (addressIn i a)
 
-abbrev pub dataFound : Registers → Fetched → Access
-dataFound r Nothing = none
-dataFound r (Found i) = dataIn i r
+abbrev pub dataFound : List ℕ → Fetched → Access
+dataFound a Nothing = none
+dataFound a (Found i) = dataIn i a
 
-abbrev pub dataChecked : List ℕ → Registers → Check → Access
-dataChecked img r (Fails t) = none
-dataChecked img r Passes = dataFound r (fetchOf img (pc r))
+abbrev pub dataChecked : List ℕ → List ℕ → ℕ → Check → Access
+dataChecked img a pc (Fails t) = none
+dataChecked img a pc Passes = dataFound a (fetchOf img pc)
 
 -- that of the instruction at PC: none where the fetch traps
-abbrev pub dataAt : List ℕ → Registers → List Range → Access
-dataAt img r rs = dataChecked img r (checkOf (r .core) rs Execute (pc r))
+abbrev pub dataAt : List ℕ → List ℕ → List ℕ → List Range → Access
+dataAt img a core rs = let pc = getD core PC 0 in dataChecked img a pc (checkOf core rs Execute pc)
 
 -- the fetch's access, and the instruction's: none where an interrupt is taken
-abbrev pub fetchAsked : Registers → List ℕ → Access
-fetchAsked r xs = cond (takes (icr r) (bestOf xs .level)) none (access Execute (pc r))
+abbrev pub fetchAsked : List ℕ → List ℕ → Access
+fetchAsked core xs = cond (takes (getD core ICR 0) (bestOf xs .level)) none (access Execute (getD core PC 0))
 
-abbrev pub dataAsked : List ℕ → Registers → List ℕ → List Range → Access
-dataAsked img r xs rs = cond (takes (icr r) (bestOf xs .level)) none (dataAt img r rs)
+abbrev pub dataAsked : List ℕ → List ℕ → List ℕ → List ℕ → List Range → Access
+dataAsked img a core xs rs = cond (takes (getD core ICR 0) (bestOf xs .level)) none (dataAt img a core rs)
 
-abbrev pub onlyAccepted : Verdict → Access → Access
-onlyAccepted (verdict.Refused x) a = none
-onlyAccepted verdict.Accepted a = a
+-- the range named for an access: of set PRS the lowest that permits it, and only where the ranges are asked
+unfoldable pub permitOf : List ℕ → List Range → Access → Permit
+permitOf core rs none = Unnamed
+permitOf core rs (access right address) = cond (asks core address) (lowestOf rs (PSW·PRS (getD core PSW 0)) right address) Unnamed
 
--- none where the step is refused
-abbrev pub fetchOfStep : List ℕ → Registers → List ℕ → Memory → Access
-fetchOfStep img r xs m = onlyAccepted (stepVerdict m img (pc r)) (fetchAsked r xs)
+abbrev pub permits : Permit → Permit → Permits
+permits f d = record { fetch = f; «data» = d }
 
-abbrev pub dataOfStep : List ℕ → Registers → List ℕ → List Range → Memory → Access
-dataOfStep img r xs rs m = onlyAccepted (stepVerdict m img (pc r)) (dataAsked img r xs rs)
+-- no range is named
+abbrev pub noPermits : Permits
+noPermits = permits Unnamed Unnamed
 
--- the ranges are asked of an access, and one permits it
-abbrev pub isPermitted : Registers → List Range → Access → Bool
-isPermitted r rs none = false
-isPermitted r rs (access right address) = asks (r .core) address && permitted rs (PSW·PRS (psw r)) right address
+-- both of a step with these address and core registers and these requests
+unfoldable pub permitsOf : List ℕ → List ℕ → List ℕ → List ℕ → List Range → Permits
+permitsOf img a core xs rs = permits (permitOf core rs (fetchAsked core xs)) (permitOf core rs (dataAsked img a core xs rs))
 
-abbrev pub By·set : Registers → List Range → Access → ℕ → Type 0
-By·set r rs none k = ⊥
-By·set r rs (access right address) k = PermittedBy rs (PSW·PRS (psw r)) right address k
-
--- the answer: a range of set PRS that permits the access, where the ranges are asked and one does; otherwise none is named
-abbrev pub PermitSays : Registers → List Range → Access → Permit → Type 0
-PermitSays r rs a (By k) = (isPermitted r rs a ≡ true) × By·set r rs a k
-PermitSays r rs a Unnamed = isPermitted r rs a ≡ false
+-- what is named for an access. The ranges are asked: a range of set PRS that permits it and before which none does, or no range where none permits. They are not: no range
+abbrev pub Named : List ℕ → List Range → Access → Permit → Type 0
+Named core rs none p = p ≡ Unnamed
+Named core rs (access right address) p = ((asks core address ≡ true) × Lowest rs (PSW·PRS (getD core PSW 0)) right address p) ⊎ ((asks core address ≡ false) × (p ≡ Unnamed))

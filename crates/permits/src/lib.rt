@@ -9,7 +9,7 @@ use operations::Access;
 use operations::access_of;
 use protection::access::Check;
 use protection::access::check_access;
-use protection::range::Found;
+use protection::range::Permit;
 use protection::range::Right;
 use protection::range::search;
 use registers::ICR;
@@ -17,29 +17,23 @@ use registers::PC;
 use registers::PSW;
 use registers::SYSCON;
 use registers::plus;
-ghost use mathlib.Core.List.{List};
-ghost use Prim.Native.Nat.{ℕ, _+_, _≤_};
+ghost use mathlib.Core.Path.{_≡_};
+ghost use Prim.Native.Nat.{_+_, _≤_};
 ghost use lib.ListN.{length};
-ghost use Rattle.registers.specs.Registers.{registers};
+ghost use Rattle.words.specs.Exactly.{Exactly};
 ghost use Rattle.protection.specs.Range.{rangesIn};
 ghost use Rattle.image.specs.Records.{ImageHolds};
 ghost use Rattle.image.specs.Fetch.{instructionAt, FieldsHold};
-ghost use Rattle.permits.specs.Permits.{access, dataIn, dataAt, fetchAsked, dataAsked, PermitSays};
-
-// The range that permitted an access, by its number. None is named where none was asked, or none permits.
-pub enum Permit {
-    Unnamed,
-    By(usize),
-}
+ghost use Rattle.permits.specs.Permits.{access, dataIn, dataAt, fetchAsked, dataAsked, permitOf, permitsOf, Named};
 
 pub struct Permits {
     pub fetch: Permit,
     pub data: Permit,
 }
 
-// A range that permits the access, where the ranges are asked and one does.
+// The lowest range that permits the access, where the ranges are asked and one does.
 fn permit_for(core: &[u32; 10], words: &[u32; 96], right: Right, address: u32) -> Permit
-    ensures { λ r. ⌜ ((d a : List ℕ) → PermitSays (registers d a (now (core .entry))) (rangesIn (now (words .entry))) (access right address) r) ⌝ }
+    ensures { λ r. ⌜ r ≡ permitOf (now (core .entry)) (rangesIn (now (words .entry))) (access right address) ⌝ }
 {
     if 0xE000_0000 <= address {
         return Permit::Unnamed;
@@ -47,15 +41,12 @@ fn permit_for(core: &[u32; 10], words: &[u32; 96], right: Right, address: u32) -
     if !fields::syscon::protection(core[SYSCON]) {
         return Permit::Unnamed;
     }
-    match search(
+    search(
         words,
         fields::psw::protection_set(core[PSW]),
         right,
         address,
-    ) {
-        Found::Nothing => Permit::Unnamed,
-        Found::By(k) => Permit::By(k),
-    }
+    )
 }
 
 // Of the data access of the record at byte `at` of the image, which begins at pc.
@@ -68,7 +59,7 @@ fn permit_record(
     pc: u32,
 ) -> Permit
     requires { ⌜ (at + 8 ≤ length (now image)) × FieldsHold (instructionAt (now image) at pc) ⌝ }
-    ensures { λ r. ⌜ ((d : List ℕ) → PermitSays (registers d (now (a .entry)) (now (core .entry))) (rangesIn (now (words .entry))) (dataIn (instructionAt (now (image .entry)) at pc) (registers d (now (a .entry)) (now (core .entry)))) r) ⌝ }
+    ensures { λ r. ⌜ r ≡ permitOf (now (core .entry)) (rangesIn (now (words .entry))) (dataIn (instructionAt (now (image .entry)) at pc) (now (a .entry))) ⌝ }
 {
     let x = wide(image[at + 2]);
     let address = plus(a[x], word_at(image, at + 4));
@@ -82,7 +73,7 @@ fn permit_record(
 // Of the data access of the instruction at PC.
 fn permit_data(image: &[u8], a: &[u32; 16], core: &[u32; 10], words: &[u32; 96]) -> Permit
     requires { ⌜ ImageHolds (now image) ⌝ }
-    ensures { λ r. ⌜ ((d : List ℕ) → PermitSays (registers d (now (a .entry)) (now (core .entry))) (rangesIn (now (words .entry))) (dataAt (now (image .entry)) (registers d (now (a .entry)) (now (core .entry))) (rangesIn (now (words .entry)))) r) ⌝ }
+    ensures { λ r. ⌜ r ≡ permitOf (now (core .entry)) (rangesIn (now (words .entry))) (dataAt (now (image .entry)) (now (a .entry)) (now (core .entry)) (rangesIn (now (words .entry)))) ⌝ }
 {
     let pc = core[PC];
     match check_access(core, words, Right::Execute, pc) {
@@ -106,8 +97,9 @@ pub fn permits_of(
     words: &[u32; 96],
 ) -> Permits
     requires { ⌜ ImageHolds (now image) ⌝ }
-    ensures { λ r. ⌜ ((d : List ℕ) → PermitSays (registers d (now (a .entry)) (now (core .entry))) (rangesIn (now (words .entry))) (fetchAsked (registers d (now (a .entry)) (now (core .entry))) (now (requests .entry))) (r .fetch)) ⌝ }
-    ensures { λ r. ⌜ ((d : List ℕ) → PermitSays (registers d (now (a .entry)) (now (core .entry))) (rangesIn (now (words .entry))) (dataAsked (now (image .entry)) (registers d (now (a .entry)) (now (core .entry))) (now (requests .entry)) (rangesIn (now (words .entry)))) (r .data)) ⌝ }
+    ensures { λ r. ⌜ r ≡ permitsOf (now (image .entry)) (now (a .entry)) (now (core .entry)) (now (requests .entry)) (rangesIn (now (words .entry))) ⌝ }
+    ensures { λ r. ⌜ Exactly (Named (now (core .entry)) (rangesIn (now (words .entry))) (fetchAsked (now (core .entry)) (now (requests .entry)))) (r .fetch) ⌝ }
+    ensures { λ r. ⌜ Exactly (Named (now (core .entry)) (rangesIn (now (words .entry))) (dataAsked (now (image .entry)) (now (a .entry)) (now (core .entry)) (now (requests .entry)) (rangesIn (now (words .entry))))) (r .data) ⌝ }
 {
     if !fields::syscon::protection(core[SYSCON]) {
         return Permits {

@@ -1,7 +1,7 @@
 -- The protection ranges (002, 3.8, Figures 28 and 29, and 7.1.2).
 use Prim.Native.Nat.{ℕ, zero, suc, _+_, _*_, _≤_, _<_}
 use mathlib.Core.Path.{_≡_}
-use mathlib.Core.Bool.{Bool, true, false, _&&_, _||_}
+use mathlib.Core.Bool.{Bool, true, false, cond, _&&_, _||_}
 use mathlib.Core.List.{List, [], _∷_}
 use lib.ListN.{getD}
 use lib.Dec.{ltb, leb}
@@ -9,8 +9,8 @@ use Rattle.fields.specs.Field.{isSet}
 use Rattle.protection.specs.declared.range.Range.{Range}
 use Rattle.protection.specs.declared.range.Right.{Right}
 use Rattle.protection.specs.declared.range.Right.the-variants.{Read, Write, Execute}
-use Rattle.protection.specs.declared.range.Found.{Found}
-use Rattle.protection.specs.declared.range.Found.the-variants.{By, Nothing}
+use Rattle.protection.specs.declared.range.Permit.{Permit}
+use Rattle.protection.specs.declared.range.Permit.the-variants.{Unnamed, By}
 
 -- range k of 96 words, three to a range
 abbrev pub rangeAt : List ℕ → ℕ → Range
@@ -57,13 +57,27 @@ anyFrom (suc n) k rs right address = permitsAt rs k right address || anyFrom n (
 abbrev pub permitted : List Range → ℕ → Right → ℕ → Bool
 permitted rs set right address = anyFrom 4 (firstOf set right) rs right address
 
--- the free answer: range k is of the set, and permits the access
+-- the first of n ranges from range k on that permits it, by its number
+unfoldable pub lowestFrom : ℕ → ℕ → List Range → Right → ℕ → Permit
+lowestFrom zero k rs right address = Unnamed
+lowestFrom (suc n) k rs right address = cond (permitsAt rs k right address) (By k) (lowestFrom n (k + 1) rs right address)
+
+-- of the set's four ranges the lowest that permits it (02, point 2)
+abbrev pub lowestOf : List Range → ℕ → Right → ℕ → Permit
+lowestOf rs set right address = lowestFrom 4 (firstOf set right) rs right address
+
+-- range k is of the set, and permits the access
 pub record PermittedBy (rs : List Range) (set : ℕ) (right : Right) (address k : ℕ) : Type 0 where
   pub from : firstOf set right ≤ k
   pub to : k < firstOf set right + 4
   pub permits-it : permitsAt rs k right address ≡ true
 
--- a search answers with a permitting range, or that none permits
-abbrev pub Answers : List Range → ℕ → Right → ℕ → Found → Type 0
-Answers rs set right address (By k) = PermittedBy rs set right address k
-Answers rs set right address Nothing = permitted rs set right address ≡ false
+-- the lowest permitting range: one of the set that permits the access, and none before it does
+pub record LowestBy (rs : List Range) (set : ℕ) (right : Right) (address k : ℕ) : Type 0 where
+  pub one : PermittedBy rs set right address k
+  pub none-before : (j : ℕ) → firstOf set right ≤ j → j < k → permitsAt rs j right address ≡ false
+
+-- what is named: the lowest permitting range, and no range where none of the four permits
+abbrev pub Lowest : List Range → ℕ → Right → ℕ → Permit → Type 0
+Lowest rs set right address (By k) = LowestBy rs set right address k
+Lowest rs set right address Unnamed = permitted rs set right address ≡ false

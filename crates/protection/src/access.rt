@@ -1,6 +1,6 @@
 // What protection says of an access: the traps of class 1.
 
-use crate::range::Found;
+use crate::range::Permit;
 use crate::range::Right;
 use crate::range::search;
 use events::trap::MPP;
@@ -49,7 +49,7 @@ pub fn check_access(core: &[u32; 10], words: &[u32; 96], right: Right, address: 
         right,
         address,
     ) {
-        Found::Nothing => Check::Fails(denied(right)),
-        Found::By(_) => Check::Passes,
+        Permit::Unnamed => Check::Fails(denied(right)),
+        Permit::By(_) => Check::Passes,
     }
 }

@@ -2,7 +2,8 @@
 
 ghost use mathlib.Core.Path.{_≡_};
 ghost use Prim.Native.Nat.{_<_};
-ghost use Rattle.protection.specs.Range.{rangeAt, rangesIn, enables, permits, firstOf, Answers};
+ghost use Rattle.words.specs.Exactly.{Exactly};
+ghost use Rattle.protection.specs.Range.{rangeAt, rangesIn, enables, permits, firstOf, lowestOf, Lowest};
 
 // lower <= address < upper, with the mode's bits: RE 6 and WE 7 of a data range, XE 7 of a code range.
 pub struct Range {
@@ -17,10 +18,10 @@ pub enum Right {
     Execute,
 }
 
-// A range that permits the access, by its number.
-pub enum Found {
+// The range that permits an access, by its number. None is named where none permits it, or none was asked.
+pub enum Permit {
+    Unnamed,
     By(usize),
-    Nothing,
 }
 
 // The ranges as words, three to a range: the form that the search reads by reference.
@@ -86,10 +87,10 @@ fn first(set: usize, right: Right) -> usize
     }
 }
 
-// A range of the set that permits the access to an address.
-pub fn search(words: &[u32; 96], set: usize, right: Right, address: u32) -> Found
+// The lowest range of the set that permits the access to an address.
+pub fn search(words: &[u32; 96], set: usize, right: Right, address: u32) -> Permit
     requires { ⌜ set < 4 ⌝ }
-    ensures { λ r. ⌜ Answers (rangesIn (now (words .entry))) set right address r ⌝ }
+    ensures { λ r. ⌜ (r ≡ lowestOf (rangesIn (now (words .entry))) set right address) × Exactly (Lowest (rangesIn (now (words .entry))) set right address) r ⌝ }
 {
     let from = first(set, right);
     let mut i: usize = 0;
@@ -103,7 +104,7 @@ pub fn search(words: &[u32; 96], set: usize, right: Right, address: u32) -> Foun
         i += 1;
     };
     if n == 32 {
-        return Found::Nothing;
+        return Permit::Unnamed;
     }
-    Found::By(n)
+    Permit::By(n)
 }

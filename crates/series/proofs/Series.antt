@@ -21,6 +21,8 @@ use Rattle.decisions.specs.Heads.{stepHeads}
 use Rattle.decisions.specs.Decision.{Decision}
 use Rattle.decisions.proofs.Decides.{one-is, decision-sound}
 use Rattle.decisions.proofs.Steps.{Kept, one-kept}
+use Rattle.permits.specs.Permits.{noPermits}
+use Rattle.permits.specs.declared.Permits.{Permits}
 use Rattle.machine.specs.Step.{StepOf, stepped, acceptedBy}
 use Rattle.machine.specs.Run.{RunOf, onward, runFrom, runOf}
 use Rattle.machine.specs.declared.answer.Outcome.{Outcome}
@@ -57,10 +59,10 @@ module _ (L : List Link) (a : Args) (b : AbstractLists) where
     restored : RestoredBy d (s .registers) b
     stops : StopsBy (s .outcome) b now
 
-  settled : (d : Decision) (x : MadeOf) → Kept r m x → Moves L d r b x → Settled d (acceptedBy r (a .requests) m (x .ending) (x .registers) (x .memory)) (moved (moveOf d r) b)
-  settled d x k z = by (x .ending) refl
+  settled : (d : Decision) (p : Permits) (x : MadeOf) → Kept r m x → Moves L d r b x → Settled d (acceptedBy r (a .requests) m p (x .ending) (x .registers) (x .memory)) (moved (moveOf d r) b)
+  settled d p x k z = by (x .ending) refl
     where
-      by : (e : Ending) → x .ending ≡ e → Settled d (acceptedBy r (a .requests) m e (x .registers) (x .memory)) (moved (moveOf d r) b)
+      by : (e : Ending) → x .ending ≡ e → Settled d (acceptedBy r (a .requests) m p e (x .registers) (x .memory)) (moved (moveOf d r) b)
       by (ending.Made e) h = record { inv = z .inv; restored = z .restores; stops = tt }
       by (ending.Stopped y) h =
           record {
@@ -75,7 +77,7 @@ module _ (L : List Link) (a : Args) (b : AbstractLists) where
     where
       by : (v : Verdict) → verdictAt a ≡ v → QuietBy v L a → Turned v (movedAt a b)
       by (Refused x) e k =
-          let s : stepAt a ≡ stepped (outcome.Refused x) r (a .requests) m = step-refused (a .image .bytes) r (a .requests) (a .ranges) m x e in
+          let s : stepAt a ≡ stepped (outcome.Refused x) r (a .requests) m noPermits = step-refused (a .image .bytes) r (a .requests) (a .ranges) m x e in
           record { inv = rw (moved-is (Refused x) e, s) i; restored = tt; stops = rw (moved-is (Refused x) e, s) refl }
       by Accepted e k =
           let w = i .valid in
@@ -83,7 +85,7 @@ module _ (L : List Link) (a : Args) (b : AbstractLists) where
           let d = decisionAt a in
           let x = oneOf (a .image .bytes) r (a .requests) (a .ranges) m in
           let z : Moves L d r b x = rw (one-is (a .image .are) w (a .requests) (a .ranges) m y) (decision-moves (stepHeads (a .image .bytes) r (a .requests) (a .ranges) ≡ false) (k .heads) i d (decision-sound (a .image .are) w (a .requests) (a .ranges) m y) (k .stores)) in
-          let t = settled d x (one-kept w m y (a .image .are) (a .requests) (a .ranges)) z in
+          let t = settled d _ x (one-kept w m y (a .image .are) (a .requests) (a .ranges)) z in
           let s = accepted-step (a .image .bytes) r (a .requests) (a .ranges) m e in
           record {
             inv = rw (moved-is Accepted e, s) (t .inv);

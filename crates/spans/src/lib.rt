@@ -5,7 +5,7 @@ use events::trap::Trap;
 use image::fetch::rest_at;
 use protection::access::Check;
 use protection::access::check_access;
-use protection::range::Found;
+use protection::range::Permit;
 use protection::range::Right;
 use protection::range::search;
 use registers::PC;
@@ -54,8 +54,8 @@ fn fetchable(core: &[u32; 10], words: &[u32; 96], pc: u32, records: u32) -> u32
         Right::Execute,
         pc,
     ) {
-        Found::Nothing => 1,
-        Found::By(k) => {
+        Permit::Unnamed => 1,
+        Permit::By(k) => {
             let below = records_below(words[3 * k + 1], pc);
             if below < records {
                 return below;

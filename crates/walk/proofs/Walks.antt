@@ -13,6 +13,7 @@ use Rattle.events.specs.declared.event.Event.{Event}
 use Rattle.events.specs.declared.event.Stop.{Stop}
 use Rattle.protection.specs.declared.range.Range.{Range}
 use Rattle.inputs.specs.declared.verdict.Refusal.{Refusal}
+use Rattle.permits.specs.declared.Permits.{Permits}
 use Rattle.machine.specs.Step.{StepOf, stepped, stepOf}
 use Rattle.machine.specs.Inner.{Ready}
 use Rattle.machine.specs.declared.answer.Outcome.{Outcome}
@@ -83,9 +84,9 @@ module _ (img : List ℕ) (made₀ : ℕ) (r₀ : Registers) (xs₀ w₀ out₀ 
     pub ended : {out′ : List ℕ} {most at′ : ℕ} → allSteps ≤ made → Written out at (endOf made) most out′ at′ → Done out′ made true r xs w at′
     ended h k = record { text = t .text ++ endOf made; most = _; wrote = then (t .wrote) k; is = t .same ∙ block-end img made r xs w (t .text) h }
 
-    module _ (below : made < allSteps) (room : at ≤ full) {o : Outcome} {r′ : Registers} {xs′ w′ : List ℕ} {rs : List Range} (none : rs ≡ noRanges) (is : stepped o r′ xs′ (windowOf w′) ≡ stepOf img r xs rs (windowOf w)) where
-      next : due ≡ after img made r (t .text) (stepped o r′ xs′ (windowOf w′))
-      next = t .same ∙ block-step img made r xs w (t .text) below (omega (arith, t .wrote .ends)) (stepped o r′ xs′ (windowOf w′)) (is ∙ rw none)
+    module _ (below : made < allSteps) (room : at ≤ full) {o : Outcome} {r′ : Registers} {xs′ w′ : List ℕ} {p : Permits} {rs : List Range} (none : rs ≡ noRanges) (is : stepped o r′ xs′ (windowOf w′) p ≡ stepOf img r xs rs (windowOf w)) where
+      next : due ≡ after img made r (t .text) (stepped o r′ xs′ (windowOf w′) p)
+      next = t .same ∙ block-step img made r xs w (t .text) below (omega (arith, t .wrote .ends)) (stepped o r′ xs′ (windowOf w′) p) (is ∙ rw none)
 
       module _ {v : Event} (made-it : o ≡ Made v) where
         abbrev pub line : List ℕ

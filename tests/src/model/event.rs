@@ -1,6 +1,7 @@
 //! What a step ends in, and the host's answer word for it.
 
 use super::checks::Refusal;
+use super::protection::Permits;
 
 #[derive(Debug, Clone, Copy, PartialEq, Eq)]
 pub struct Trap {
@@ -70,12 +71,14 @@ impl From<Stop> for Undone {
     }
 }
 
-/// The answer word: kind, number, TIN, and in the high half a place or the steps made.
+/// The answer word: kind, number, TIN, a step's permitting ranges, and in the high half a place or the steps made.
 pub mod answer {
-    use super::{Event, Refusal, Stop};
+    use super::{Event, Permits, Refusal, Stop};
 
     pub const WRONG_LENGTH: u64 = 5;
     pub const ACCEPTED: u64 = 6;
+    /// The bits of the permitting ranges.
+    pub const PERMITS: u64 = 0xFF00_0000;
 
     pub fn event(event: Event) -> u64 {
         match event {
@@ -87,6 +90,11 @@ pub mod answer {
 
     pub fn stop(stop: Stop) -> u64 {
         3 | (stop.number() as u64) << 8
+    }
+
+    pub fn permits(permits: Permits) -> u64 {
+        let [fetch, data] = [permits.fetch, permits.data].map(|by| by.map_or(0, |k| 4 + k as u64));
+        fetch << 24 | data << 27
     }
 
     pub fn refused(refusal: Refusal) -> u64 {

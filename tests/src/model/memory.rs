@@ -10,7 +10,7 @@ impl<O: Observer> Machine<'_, O> {
     /// Where the bytes of an access lie in the window. `pointer` is A[c] for LD.A: its guard comes before the alignment.
     #[inline(always)]
     fn reach(
-        &self,
+        &mut self,
         i: Instruction,
         access: Access,
         size: usize,
@@ -18,7 +18,8 @@ impl<O: Observer> Machine<'_, O> {
         pointer: Option<usize>,
     ) -> Result<usize, Trap> {
         let address = self.core.a[i.a].wrapping_add(i.immediate);
-        self.core.permit(access, address)?;
+        self.permits.data = self.core.permit(access, address)?;
+        self.observer.permitted(&self.core, access, address, self.permits.data);
         if let Some(n) = pointer {
             self.core.guard(n)?;
         }
@@ -33,28 +34,28 @@ impl<O: Observer> Machine<'_, O> {
     }
 
     #[inline(always)]
-    fn read<const N: usize>(&self, i: Instruction, align: u32, pointer: Option<usize>) -> Result<[u8; N], Trap> {
+    fn read<const N: usize>(&mut self, i: Instruction, align: u32, pointer: Option<usize>) -> Result<[u8; N], Trap> {
         let at = self.reach(i, Access::Read, N, align, pointer)?;
         Ok(self.window[at..at + N].try_into().unwrap())
     }
 
     #[inline(always)]
-    pub fn load_byte(&self, i: Instruction) -> Result<u8, Trap> {
+    pub fn load_byte(&mut self, i: Instruction) -> Result<u8, Trap> {
         Ok(u8::from_le_bytes(self.read(i, 1, None)?))
     }
 
     #[inline(always)]
-    pub fn load_half(&self, i: Instruction) -> Result<u16, Trap> {
+    pub fn load_half(&mut self, i: Instruction) -> Result<u16, Trap> {
         Ok(u16::from_le_bytes(self.read(i, 2, None)?))
     }
 
     #[inline(always)]
-    pub fn load_word(&self, i: Instruction) -> Result<u32, Trap> {
+    pub fn load_word(&mut self, i: Instruction) -> Result<u32, Trap> {
         Ok(u32::from_le_bytes(self.read(i, 2, None)?))
     }
 
     #[inline(always)]
-    pub fn load_pointer(&self, i: Instruction) -> Result<u32, Trap> {
+    pub fn load_pointer(&mut self, i: Instruction) -> Result<u32, Trap> {
         Ok(u32::from_le_bytes(self.read(i, 4, Some(i.c))?))
     }
 

@@ -2,6 +2,7 @@
 
 use super::core::Core;
 use super::event::{Event, Stop};
+use super::protection::Access;
 
 #[derive(Debug, Clone, Copy, PartialEq, Eq)]
 pub enum Half {
@@ -12,6 +13,8 @@ pub enum Half {
 pub trait Observer {
     /// A step begins with these registers.
     fn begins(&mut self, _core: &Core) {}
+    /// An access was permitted; the range that did, where protection asked for one.
+    fn permitted(&mut self, _core: &Core, _access: Access, _address: u32, _by: Option<usize>) {}
     /// A record was fetched; its operation's number.
     fn fetched(&mut self, _operation: u8) {}
     /// A save is about to be made, and finds these registers.

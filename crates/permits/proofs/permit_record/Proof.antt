@@ -2,10 +2,9 @@
 use borrow.Author.Needs.{needs}
 use mathlib.Core.Path.{sym, _∙_}
 use native.Mathlib.Omega.{arith}
-use Rattle.registers.specs.Registers.{registers}
-use Rattle.protection.specs.Range.{rangesIn}
+use Rattle.operations.specs.declared.Access.the-variants as data-access
 use Rattle.image.specs.Fetch.{instructionAt}
-use Rattle.permits.proofs.Permitting.{data-none, data-read, data-write}
+use Rattle.permits.proofs.Permitting.{of-none, of-data}
 use Rattle.permits.proofs.permit_record.Statement.{statement}
 use Rattle.permits.proofs.permit_record.Tie as tie
 
@@ -18,13 +17,13 @@ unfolding instructionAt
 element-copy-out-plus c = omega (arith, c .wide .ensures, c .before .before .before .pre .1 .1)
 
 returns : tie.Need-returns
-returns c = λ d. data-none (registers d (c .before .before .before .before .before .before .before .before .before .before .args .a .now) (c .before .before .before .before .before .before .before .before .before .before .args .core .now)) (rangesIn (c .before .before .before .before .before .before .before .before .before .before .args .words .now)) (c .before .before .before .before .before .before .before .before .before .before .args .image .now) (c .before .before .before .before .before .before .before .before .before .before .args .at) (c .before .before .before .before .before .before .before .before .before .before .args .pc) (c .before .before .before .before .plus .result) (rw (c .before .before .before .before .before .before .before .wide .ensures, c .before .before .before .before .before .word-at .ensures) at (c .before .before .before .before .plus .ensures)) (sym (c .enum-told .given .1) ∙ c .before .before .access-of .ensures)
+returns c = of-data _ _ (c .before .before .before .before .before .before .before .before .before .before .args .a .now) _ _ _ _ (rw (c .before .before .before .before .before .before .before .wide .ensures, c .before .before .before .before .before .word-at .ensures) at (c .before .before .before .before .plus .ensures)) data-access.Nothing (sym (c .enum-told .given .1) ∙ c .before .before .access-of .ensures) (of-none _ _)
 
 returns-2 : tie.Need-returns-2
-returns-2 c = λ d. data-read (registers d (c .before .before .before .before .before .before .before .before .before .before .before .args .a .now) (c .before .before .before .before .before .before .before .before .before .before .before .args .core .now)) (rangesIn (c .before .before .before .before .before .before .before .before .before .before .before .args .words .now)) (c .before .before .before .before .before .before .before .before .before .before .before .args .image .now) (c .before .before .before .before .before .before .before .before .before .before .before .args .at) (c .before .before .before .before .before .before .before .before .before .before .before .args .pc) (c .before .before .before .before .before .plus .result) (rw (c .before .before .before .before .before .before .before .before .wide .ensures, c .before .before .before .before .before .before .word-at .ensures) at (c .before .before .before .before .before .plus .ensures)) (c .permit-for .result) (sym (c .before .enum-told2 .given .1) ∙ c .before .before .before .access-of .ensures) (c .permit-for .ensures d (c .before .before .before .before .before .before .before .before .before .before .before .args .a .now))
+returns-2 c = of-data _ _ (c .before .before .before .before .before .before .before .before .before .before .before .args .a .now) _ _ _ _ (rw (c .before .before .before .before .before .before .before .before .wide .ensures, c .before .before .before .before .before .before .word-at .ensures) at (c .before .before .before .before .before .plus .ensures)) data-access.Read (sym (c .before .enum-told2 .given .1) ∙ c .before .before .before .access-of .ensures) (c .permit-for .ensures)
 
 returns-3 : tie.Need-returns-3
-returns-3 c = λ d. data-write (registers d (c .before .before .before .before .before .before .before .before .before .before .before .args .a .now) (c .before .before .before .before .before .before .before .before .before .before .before .args .core .now)) (rangesIn (c .before .before .before .before .before .before .before .before .before .before .before .args .words .now)) (c .before .before .before .before .before .before .before .before .before .before .before .args .image .now) (c .before .before .before .before .before .before .before .before .before .before .before .args .at) (c .before .before .before .before .before .before .before .before .before .before .before .args .pc) (c .before .before .before .before .before .plus .result) (rw (c .before .before .before .before .before .before .before .before .wide .ensures, c .before .before .before .before .before .before .word-at .ensures) at (c .before .before .before .before .before .plus .ensures)) (c .permit-for2 .result) (sym (c .before .enum-told3 .given .1) ∙ c .before .before .before .access-of .ensures) (c .permit-for2 .ensures d (c .before .before .before .before .before .before .before .before .before .before .before .args .a .now))
+returns-3 c = of-data _ _ (c .before .before .before .before .before .before .before .before .before .before .before .args .a .now) _ _ _ _ (rw (c .before .before .before .before .before .before .before .before .wide .ensures, c .before .before .before .before .before .before .word-at .ensures) at (c .before .before .before .before .before .plus .ensures)) data-access.Write (sym (c .before .enum-told3 .given .1) ∙ c .before .before .before .access-of .ensures) (c .permit-for2 .ensures)
 
 pub permit-record-spec : {M : Type 1} → statement M
 permit-record-spec =

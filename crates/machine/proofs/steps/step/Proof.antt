@@ -1,11 +1,9 @@
 -- `machine::steps::step` meets its contract. Assumes nothing.
 use borrow.Author.Needs.{needs}
 use mathlib.Core.Path.{sym, _∙_}
-use Rattle.memory.specs.Memory.{memory}
 use Rattle.decisions.proofs.Known.{valid-of, bytes-of}
 use Rattle.machine.proofs.Turns.{accepted-even}
 use Rattle.machine.proofs.Singles.{step-refused, step-told}
-use Rattle.permits.proofs.Permitting.{no-fetch, no-data}
 use Rattle.machine.proofs.steps.step.Statement.{statement}
 use Rattle.machine.proofs.steps.step.Tie as tie
 
@@ -13,10 +11,10 @@ step-accepted-requires : tie.Need-step-accepted-requires
 step-accepted-requires c κs = let e = (sym (c .before .before .before .try-step .ensures .0 .0) ∙ c .before .enum-told .given .1) in record { accepted = e; image = bytes-of (c .before .before .before .before .before .before .shared-slice-known .given); valid = valid-of (c .before .before .before .before .before .before .before .before .good .1 .1 .1 .0) (accepted-even _ _ _ e); bytes = bytes-of (c .before .before .before .before .before .before .before .slice-known .given) }
 
 returns : tie.Need-returns
-returns c = let e = (sym (c .before .before .before .try-step .ensures .0 .0) ∙ c .before .x .given .1) in let s = sym (step-refused _ _ _ _ _ _ e) in (s, (no-fetch (c .before .before .before .before .before .before .before .before .args .t4) (c .before .before .before .before .before .before .before .before .args .ranges) (c .before .before .before .before .before .before .before .before .args .image .now) (c .before .before .before .before .before .before .before .before .args .requests) (memory (c .before .before .before .before .before .before .before .before .args .base .0) (c .before .before .before .before .before .before .before .before .args .window .now)) _ e, (no-data (c .before .before .before .before .before .before .before .before .args .t4) (c .before .before .before .before .before .before .before .before .args .ranges) (c .before .before .before .before .before .before .before .before .args .image .now) (c .before .before .before .before .before .before .before .before .args .requests) (memory (c .before .before .before .before .before .before .before .before .args .base .0) (c .before .before .before .before .before .before .before .before .args .window .now)) _ e, step-told _ _ _ _ _ s)))
+returns c = let s = sym (step-refused _ _ _ _ _ _ (sym (c .before .before .before .try-step .ensures .0 .0) ∙ c .before .x .given .1)) in (s, step-told _ _ _ _ _ s)
 
 returns-2 : tie.Need-returns-2
-returns-2 c = let e = c .before .before .step-accepted .ensures in (e .0, (e .1 .0, (e .1 .1 .0, step-told _ _ _ _ _ (e .0))))
+returns-2 c = let e = c .before .before .step-accepted .ensures in (e .0, step-told _ _ _ _ _ (e .0))
 
 pub step-spec : {M : Type 1} → statement M
 step-spec =

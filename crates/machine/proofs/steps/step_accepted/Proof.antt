@@ -1,12 +1,10 @@
 -- `machine::steps::step_accepted` meets its contract. Assumes nothing.
 use borrow.Author.Needs.{needs}
-use mathlib.Core.Path.{sym, ap, subst, _∙_}
-use Rattle.memory.specs.Memory.{memory}
+use mathlib.Core.Path.{sym, subst}
 use Rattle.machine.specs.Step.{StepOf}
 use Rattle.machine.specs.Inner.{Ready}
 use Rattle.machine.proofs.Turns.{image-holds}
-use Rattle.machine.proofs.Singles.{strip, one-step, ready-after}
-use Rattle.permits.proofs.Permitting.{accepted-fetch, accepted-data}
+use Rattle.machine.proofs.Singles.{accepted-one, ready-after}
 use Rattle.machine.proofs.steps.step_accepted.Statement.{statement}
 use Rattle.machine.proofs.steps.step_accepted.Tie as tie
 
@@ -15,8 +13,10 @@ permits-of-requires c κs = image-holds _ _ _ (c .before .before .before .before
 
 returns : tie.Need-returns
 returns c =
-    let s = ap strip (rw (c .before .before .before .before .before .before .before .before .before .before .before .before .before .before .before .before .before .before .flat .ensures) at (c .before .before .before .run-steps .ensures)) ∙ one-step _ _ _ _ _ in
-    (rw (c .outcome-of .ensures) s, (accepted-fetch (c .before .before .before .before .before .before .before .before .before .before .before .before .before .before .before .before .before .before .before .before .before .args .registers) (c .before .before .before .before .before .before .before .before .before .before .before .before .before .before .before .before .before .before .before .before .before .args .ranges) (c .before .before .before .before .before .before .before .before .before .before .before .before .before .before .before .before .before .before .before .before .before .args .image .now) (c .before .before .before .before .before .before .before .before .before .before .before .before .before .before .before .before .before .before .before .before .before .args .requests) (memory (c .before .before .before .before .before .before .before .before .before .before .before .before .before .before .before .before .before .before .before .before .before .args .base .0) (c .before .before .before .before .before .before .before .before .before .before .before .before .before .before .before .before .before .before .before .before .before .args .window .now)) (c .before .before .before .before .before .before .before .before .before .before .before .before .before .before .before .before .before .before .before .before .before .pre .accepted) (c .before .before .before .before .before .before .before .before .before .before .permits-of .result .fetch) (rw (c .before .before .before .before .before .before .before .before .before .before .before .before .before .before .before .before .before .before .flat .ensures) at (c .before .before .before .before .before .before .before .before .before .before .permits-of .ensures .0 ((c .before .before .before .before .before .before .before .before .before .before .before .before .before .before .before .before .before .before .before .before .before .args .registers) .d))), (accepted-data (c .before .before .before .before .before .before .before .before .before .before .before .before .before .before .before .before .before .before .before .before .before .args .registers) (c .before .before .before .before .before .before .before .before .before .before .before .before .before .before .before .before .before .before .before .before .before .args .ranges) (c .before .before .before .before .before .before .before .before .before .before .before .before .before .before .before .before .before .before .before .before .before .args .image .now) (c .before .before .before .before .before .before .before .before .before .before .before .before .before .before .before .before .before .before .before .before .before .args .requests) (memory (c .before .before .before .before .before .before .before .before .before .before .before .before .before .before .before .before .before .before .before .before .before .args .base .0) (c .before .before .before .before .before .before .before .before .before .before .before .before .before .before .before .before .before .before .before .before .before .args .window .now)) (c .before .before .before .before .before .before .before .before .before .before .before .before .before .before .before .before .before .before .before .before .before .pre .accepted) (c .before .before .before .before .before .before .before .before .before .before .permits-of .result .data) (rw (c .before .before .before .before .before .before .before .before .before .before .before .before .before .before .before .before .before .before .flat .ensures) at (c .before .before .before .before .before .before .before .before .before .before .permits-of .ensures .1 ((c .before .before .before .before .before .before .before .before .before .before .before .before .before .before .before .before .before .before .before .before .before .args .registers) .d))), subst (λ (v : StepOf). Ready (c .before .before .before .before .before .before .before .before .before .before .before .before .before .before .before .before .before .before .before .before .before .args .image .now) (v .registers) (v .memory)) (sym s) (ready-after (c .before .before .before .before .before .before .before .before .before .before .before .before .before .before .before .before .before .before .before .before .before .pre) _ _))))
+    let y = c .before .before .before .before .before .before .before .before .before .before .before .before .before .before .before .before .before .before .before .before .before .pre in
+    let f = c .before .before .before .before .before .before .before .before .before .before .before .before .before .before .before .before .before .before .flat .ensures in
+    let s = accepted-one _ _ _ _ _ (y .accepted) (rw f at (c .before .before .before .run-steps .ensures)) (rw f at (c .before .before .before .before .before .before .before .before .before .before .permits-of .ensures .0)) in
+    (rw (c .outcome-of .ensures) s, subst (λ (v : StepOf). Ready (c .before .before .before .before .before .before .before .before .before .before .before .before .before .before .before .before .before .before .before .before .before .args .image .now) (v .registers) (v .memory)) (sym s) (ready-after y _ _))
 
 pub step-accepted-spec : {M : Type 1} → statement M
 step-accepted-spec =

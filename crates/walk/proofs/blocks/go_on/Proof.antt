@@ -27,13 +27,13 @@ element-copy-out-pc : tie.Need-element-copy-out-pc Inv-loop μ-loop
 element-copy-out-pc c = omega (arith, c .before .before .loop .inv .ready .valid .core .size)
 
 element-copy-out-put-line : tie.Need-element-copy-out-put-line Inv-loop μ-loop
-element-copy-out-put-line c = omega (arith, c .before .before .before .before .before .before .before .step-accepted .ensures .1 .1 .1 .valid .core .size)
+element-copy-out-put-line c = omega (arith, c .before .before .before .before .before .before .before .step-accepted .ensures .1 .valid .core .size)
 
 element-copy-out-put-line-2 : tie.Need-element-copy-out-put-line-2 Inv-loop μ-loop
-element-copy-out-put-line-2 c = omega (arith, c .before .before .before .before .before .before .before .before .step-accepted .ensures .1 .1 .1 .valid .core .size)
+element-copy-out-put-line-2 c = omega (arith, c .before .before .before .before .before .before .before .before .step-accepted .ensures .1 .valid .core .size)
 
 element-copy-out-put-line-3 : tie.Need-element-copy-out-put-line-3 Inv-loop μ-loop
-element-copy-out-put-line-3 c = omega (arith, c .before .before .before .before .before .before .before .before .before .step-accepted .ensures .1 .1 .1 .valid .core .size)
+element-copy-out-put-line-3 c = omega (arith, c .before .before .before .before .before .before .before .before .before .step-accepted .ensures .1 .valid .core .size)
 
 put-line-requires : tie.Need-put-line-requires Inv-loop μ-loop
 put-line-requires c κs = omega (arith, c .before .before .before .before .before .before .before .before .before .before .before .before .before .if1 .left)
@@ -51,7 +51,7 @@ loop-less : tie.Need-loop-less Inv-loop μ-loop
 loop-less c = omega (arith, c .before .before .before .before .before .before .before .before .before .before .before .before .before .before .before .before .before .loop-test .taken)
 
 loop-again : tie.Need-loop-again Inv-loop μ-loop
-loop-again c = on _ _ _ _ _ _ (c .before .before .before .before .before .before .before .before .before .before .before .before .before .before .before .before .before .before .loop .inv) (c .before .before .before .before .before .before .before .before .before .before .before .before .before .before .before .before .before .loop-test .taken) (c .before .before .before .before .before .before .before .before .before .before .before .before .before .before .before .before .if1 .left) (c .before .before .before .before .before .before .before .before .before .before .before .before .before .before .before .before .before .before .before .before .before .before .no-ranges .ensures) (c .before .before .before .before .before .before .before .before .before .before .before .before .before .step-accepted .ensures .0) (c .before .before .before .before .before .before .before .before .outcome .given .1) (c .before .before .before .before .before .before .before .before .before .before .before .before .before .step-accepted .ensures .1 .1 .1) (c .before .before .before .before .before .before .before .before .before .before .before .before .before .step-accepted .kept .1 .0) (c .before .before .put-line .ensures) (sym (c .before .is-trap .ensures) ∙ c .if2 .left)
+loop-again c = on _ _ _ _ _ _ (c .before .before .before .before .before .before .before .before .before .before .before .before .before .before .before .before .before .before .loop .inv) (c .before .before .before .before .before .before .before .before .before .before .before .before .before .before .before .before .before .loop-test .taken) (c .before .before .before .before .before .before .before .before .before .before .before .before .before .before .before .before .if1 .left) (c .before .before .before .before .before .before .before .before .before .before .before .before .before .before .before .before .before .before .before .before .before .before .no-ranges .ensures) (c .before .before .before .before .before .before .before .before .before .before .before .before .before .step-accepted .ensures .0) (c .before .before .before .before .before .before .before .before .outcome .given .1) (c .before .before .before .before .before .before .before .before .before .before .before .before .before .step-accepted .ensures .1) (c .before .before .before .before .before .before .before .before .before .before .before .before .before .step-accepted .kept .1 .0) (c .before .before .put-line .ensures) (sym (c .before .is-trap .ensures) ∙ c .if2 .left)
 
 put-stop-requires : tie.Need-put-stop-requires Inv-loop μ-loop
 put-stop-requires c κs = omega (arith, c .before .before .before .before .before .before .before .before .before .before .if1 .left)
