@@ -32,6 +32,8 @@ pub struct Coverage {
     steps_with_protection: u64,
     /// Interrupts of a source with others of its priority number: with any, with two or more, with none next to it.
     ties: [u64; 3],
+    /// Steps that told a permitting range, by the answer's kind.
+    told: [u64; 4],
     /// Of the accesses whose permitting range a step told, as reads, writes and fetches: by the range.
     named: [[u64; 4]; 3],
     /// Of them those that a later range permits too, and those of which this one is not the set's first.
@@ -60,6 +62,7 @@ impl Default for Coverage {
             runs_stopped_midway: 0,
             steps_with_protection: 0,
             ties: [0; 3],
+            told: [0; 4],
             named: [[0; 4]; 3],
             overlaps: [[0; 2]; 3],
             psw: [0; 128],
@@ -104,6 +107,11 @@ impl Coverage {
         self.ties[0] += !others.is_empty() as u64;
         self.ties[1] += (others.len() > 1) as u64;
         self.ties[2] += (!others.is_empty() && others.iter().all(|k| k.abs_diff(source) > 1)) as u64;
+    }
+
+    /// The answer of a step that told a permitting range.
+    pub fn told(&mut self, answer: u64) {
+        self.told[answer as u8 as usize] += 1;
     }
 
     /// An access of a step that told its permitting range, with all ranges of the set that permit it.
@@ -151,6 +159,9 @@ impl Coverage {
             ("run of 0 steps".into(), self.empty_runs),
             ("run stopped after a step".into(), self.runs_stopped_midway),
             ("step with protection on".into(), self.steps_with_protection),
+            ("instruction with a range".into(), self.told[0]),
+            ("trap with a range".into(), self.told[2]),
+            ("stop with a range".into(), self.told[3]),
             ("interrupt at a tie".into(), self.ties[0]),
             ("interrupt at a tie of 3".into(), self.ties[1]),
             ("interrupt at a tie apart".into(), self.ties[2]),

@@ -3,7 +3,7 @@
 use crate::book::{Book, Registers};
 use crate::coverage::Coverage;
 use crate::model::core::Core;
-use crate::model::event::{Event, Stop};
+use crate::model::event::{answer::PERMITS, Event, Stop};
 use crate::model::observer::{Half, Observer};
 use crate::model::protection::Access;
 
@@ -43,8 +43,12 @@ impl Watcher {
         }
     }
 
-    /// A step that was not refused, whose answer told its permitting ranges.
-    pub fn told(&mut self) {
+    /// A step's answer, with its permitting ranges.
+    pub fn told(&mut self, answer: u64) {
+        if answer & PERMITS == 0 {
+            return;
+        }
+        self.coverage.told(answer);
         for (access, ranges) in &self.permitted {
             self.coverage.permitted(*access, ranges);
         }

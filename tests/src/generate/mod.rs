@@ -55,8 +55,8 @@ fn call(draw: &mut Draw, plan: &Plan) -> Call {
     Call {
         changes: (0..changes).map(|_| change(draw, plan)).collect(),
         image: draw.pick(&[0, 0, 0, 0, 0, 0, 0, 0, 0, 0, 0, 0, 0, 1, 1, 2]),
-        kind: match draw.below(2) {
-            0 => Kind::Step,
+        kind: match draw.below(4) {
+            0..3 => Kind::Step,
             _ => Kind::Run(draw.pick(&[0, 1, 2, 3, 5, 9, 17, 40, 90])),
         },
         length: if draw.percent(1) { draw.pick(&[0, 1, 612, 615, 617, 620]) } else { RECORD },
