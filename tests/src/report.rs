@@ -29,7 +29,8 @@ fn describe(answer: u64) -> String {
         6 => "accepted".into(),
         _ => "no kind".into(),
     };
-    format!("{answer:016X} ({kind}, high word {})", answer >> 32)
+    let (fetch, data) = (answer >> 24 & 7, answer >> 27 & 7);
+    format!("{answer:016X} ({kind}, ranges {fetch} and {data}, high word {})", answer >> 32)
 }
 
 /// The words that differ between two sides of the same length.
