@@ -1,7 +1,7 @@
 -- What the three functions answer, and what they leave of the core record and the window. A record of another length than 616 is answered as such, with all as before.
 use Prim.Native.Nat.{ℕ}
 use mathlib.Core.Path.{_≡_}
-use mathlib.Core.Bool.{Bool, true, false, cond}
+use mathlib.Core.Bool.{Bool, cond}
 use mathlib.Core.List.{List}
 use lib.ListN.{length}
 use lib.Dec.{eqb}

@@ -4,7 +4,7 @@ use Prim.Native.Nat.{ℕ, _+_, _≤_, _<_}
 use mathlib.Core.Path.{_≡_, refl, sym, ap, _∙_}
 use mathlib.Core.Bool.{Bool, true, false, cond, not, _&&_}
 use mathlib.Core.List.{List}
-use mathlib.Core.Logic.{_⊎_, inl, inr}
+use mathlib.Core.Logic.{inl, inr}
 use lib.ListN.{getD}
 use borrow.Author.Tests.{le-leb, lt-leb}
 use Rattle.words.specs.Exactly.{Exactly}
@@ -15,7 +15,7 @@ use Rattle.fields.specs.Psw.{PSW·PRS}
 use Rattle.fields.specs.Syscon.{SYSCON·PROTEN}
 use Rattle.registers.specs.Registers.{plusOf}
 use Rattle.events.specs.declared.trap.Trap.{Trap}
-use Rattle.protection.specs.Range.{lowestOf, Lowest}
+use Rattle.protection.specs.Range.{lowestOf}
 use Rattle.protection.specs.Access.{checkOf, asks, peripheral}
 use Rattle.protection.specs.declared.range.Range.{Range}
 use Rattle.protection.specs.declared.range.Right.{Right}
@@ -27,7 +27,6 @@ use Rattle.protection.proofs.Searches.{lowest-says, lowest-is}
 use Rattle.interrupts.specs.Sources.{bestOf, takes}
 use Rattle.operations.specs.Operations.{operationOf, accessOf}
 use Rattle.operations.specs.declared.Access.{Access as DataAccess}
-use Rattle.operations.specs.declared.Access.the-variants as data-access
 use Rattle.image.specs.Fetch.{instructionAt, fetchOf}
 use Rattle.image.specs.declared.fetch.Instruction.{Instruction}
 use Rattle.image.specs.declared.fetch.Fetched.the-variants.{Found, Nothing}
