@@ -93,7 +93,7 @@ impl Observer for &mut Watcher {
 
     fn permitted(&mut self, core: &Core, access: Access, address: u32, by: Option<usize>) {
         if by.is_some() {
-            self.permitted.push((access, core.permitting(access, address).collect()));
+            self.permitted.push((access, core.permitting(access, address)));
         }
     }
 

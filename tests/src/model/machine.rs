@@ -15,8 +15,6 @@ pub struct Machine<'a, O> {
     pub base: u32,
     pub window: &'a mut [u8],
     pub observer: O,
-    /// Of the latest step.
-    pub permits: Permits,
     code: Code<'a>,
     /// Priority number and source of the foremost request, or `UNKNOWN`.
     foremost: (u32, usize),
@@ -36,7 +34,7 @@ fn foremost(requests: &[u32; 16]) -> (u32, usize) {
 
 impl<'a, O: Observer> Machine<'a, O> {
     pub fn new(core: Core, base: u32, window: &'a mut [u8], image: &'a [u8], observer: O) -> Self {
-        Machine { core, base, window, observer, permits: Permits::default(), code: Code::new(image), foremost: UNKNOWN }
+        Machine { core, base, window, observer, code: Code::new(image), foremost: UNKNOWN }
     }
 
     #[inline(always)]
@@ -49,7 +47,6 @@ impl<'a, O: Observer> Machine<'a, O> {
 
     #[inline(always)]
     fn step_unobserved(&mut self) -> Result<Event, Stop> {
-        self.permits = Permits::default();
         if self.core.icr & icr::IE != 0 && self.foremost.0 > self.core.icr & icr::CCPN {
             self.foremost = foremost(&self.core.requests);
             let (priority, source) = self.foremost;
@@ -61,10 +58,9 @@ impl<'a, O: Observer> Machine<'a, O> {
         }
         let pc = self.core.pc;
         match self.core.permit(Access::Fetch, pc) {
-            Ok(by) => self.permits.fetch = by,
+            Ok(by) => self.observer.permitted(&self.core, Access::Fetch, pc, by),
             Err(trap) => return self.trap(trap, pc),
         }
-        self.observer.permitted(&self.core, Access::Fetch, pc, self.permits.fetch);
         let Some(instruction) = self.code.fetch(pc) else {
             return self.trap(CODE, pc);
         };
@@ -129,7 +125,9 @@ fn attempt<O: Observer>(
 }
 
 pub fn step_observed(record: &mut [u8], base: u32, window: &mut [u8], image: &[u8], observer: impl Observer) -> u64 {
-    attempt(record, base, window, image, observer, |machine| word_of(machine.step()) | answer::permits(machine.permits))
+    attempt(record, base, window, image, (observer, Permits::default()), |machine| {
+        word_of(machine.step()) | answer::permits(machine.observer.1)
+    })
 }
 
 pub fn run_observed(

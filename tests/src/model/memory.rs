@@ -18,8 +18,8 @@ impl<O: Observer> Machine<'_, O> {
         pointer: Option<usize>,
     ) -> Result<usize, Trap> {
         let address = self.core.a[i.a].wrapping_add(i.immediate);
-        self.permits.data = self.core.permit(access, address)?;
-        self.observer.permitted(&self.core, access, address, self.permits.data);
+        let by = self.core.permit(access, address)?;
+        self.observer.permitted(&self.core, access, address, by);
         if let Some(n) = pointer {
             self.core.guard(n)?;
         }

@@ -32,3 +32,51 @@ pub trait Observer {
 }
 
 impl Observer for () {}
+
+/// Both are told.
+impl<A: Observer, B: Observer> Observer for (A, B) {
+    fn begins(&mut self, core: &Core) {
+        self.0.begins(core);
+        self.1.begins(core);
+    }
+
+    fn permitted(&mut self, core: &Core, access: Access, address: u32, by: Option<usize>) {
+        self.0.permitted(core, access, address, by);
+        self.1.permitted(core, access, address, by);
+    }
+
+    fn fetched(&mut self, operation: u8) {
+        self.0.fetched(operation);
+        self.1.fetched(operation);
+    }
+
+    fn saves(&mut self, half: Half, core: &Core) {
+        self.0.saves(half, core);
+        self.1.saves(half, core);
+    }
+
+    fn enters(&mut self, event: Event) {
+        self.0.enters(event);
+        self.1.enters(event);
+    }
+
+    fn returned(&mut self, half: Half, core: &Core) {
+        self.0.returned(half, core);
+        self.1.returned(half, core);
+    }
+
+    fn stored(&mut self, offset: usize, size: usize) {
+        self.0.stored(offset, size);
+        self.1.stored(offset, size);
+    }
+
+    fn wrote_head(&mut self) {
+        self.0.wrote_head();
+        self.1.wrote_head();
+    }
+
+    fn ends(&mut self, outcome: Result<Event, Stop>) {
+        self.0.ends(outcome);
+        self.1.ends(outcome);
+    }
+}
