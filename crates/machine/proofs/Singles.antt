@@ -42,6 +42,7 @@ module _ (img : List ℕ) (r : Registers) (xs : List ℕ) (rs : List Range) (m :
   unfolding runFrom
   one-step = let s = stepOf img r xs rs m in onward-one (s .outcome) _ s refl
 
+  -- made or stopped, it names them
   accepted-permits : (p : Permits) (e : Ending) (q : Registers) (n : Memory) → acceptedBy r xs m p e q n .permits ≡ p
   accepted-permits p (ending.Made e) q n = refl
   accepted-permits p (ending.Stopped s) q n = refl
@@ -49,9 +50,9 @@ module _ (img : List ℕ) (r : Registers) (xs : List ℕ) (rs : List Range) (m :
   -- of an accepted machine: the run of one, and the ranges named
   pub accepted-one : stepVerdict m img (pc r) ≡ Accepted → {v : RunOf} → v ≡ runFrom 1 img rs (outcome.Made event.Instruction) 0 r xs m → {p : Permits} → p ≡ permitsOf img (r .a) (r .core) xs rs → strip p v ≡ stepOf img r xs rs m
   accepted-one e {v} is {p} named =
-      let x = oneOf img r xs rs m in
-      let q : stepOf img r xs rs m .permits ≡ p = ap (λ (s : StepOf). s .permits) (accepted-step img r xs rs m e) ∙ accepted-permits _ (x .ending) (x .registers) (x .memory) ∙ sym named in
-      ap (λ (q : Permits). strip q v) (sym q) ∙ ap (strip (stepOf img r xs rs m .permits)) is ∙ one-step
+      let w = oneOf img r xs rs m in
+      let same : stepOf img r xs rs m .permits ≡ p = ap (λ (s : StepOf). s .permits) (accepted-step img r xs rs m e) ∙ accepted-permits _ (w .ending) (w .registers) (w .memory) ∙ sym named in
+      ap (λ (x : Permits). strip x v) (sym same) ∙ ap (strip (stepOf img r xs rs m .permits)) is ∙ one-step
 
   module _ (x : Refusal) (e : stepVerdict m img (pc r) ≡ Refused x) where
     pub step-refused : stepOf img r xs rs m ≡ stepped (outcome.Refused x) r xs m noPermits

@@ -1,4 +1,4 @@
-// The ranges that permit a step's fetch and its data access.
+// The ranges that permit a step's fetch and its data access: of set PRS the lowest.
 
 use image::fetch::rest_at;
 use image::fetch::wide;
@@ -26,6 +26,7 @@ ghost use Rattle.image.specs.Records.{ImageHolds};
 ghost use Rattle.image.specs.Fetch.{instructionAt, FieldsHold};
 ghost use Rattle.permits.specs.Permits.{access, dataIn, dataAt, fetchAsked, dataAsked, permitOf, permitsOf, Named};
 
+// The ranges named for a step's fetch and for its data access.
 pub struct Permits {
     pub fetch: Permit,
     pub data: Permit,
