@@ -30,7 +30,7 @@ use Rattle.operations.specs.declared.Access.{Access as DataAccess}
 use Rattle.image.specs.Fetch.{instructionAt, fetchOf}
 use Rattle.image.specs.declared.fetch.Instruction.{Instruction}
 use Rattle.image.specs.declared.fetch.Fetched.the-variants.{Found, Nothing}
-use Rattle.permits.specs.Permits.{Access, none, access, dataBy, dataIn, dataAt, fetchAsked, dataAsked, permitOf, permits, noPermits, permitsOf, Named}
+use Rattle.permits.specs.Permits.{Access, none, access, dataBy, dataIn, dataAt, fetchAsked, dataAsked, permitOf, permitsBy, noPermits, permitsOf, Named}
 use Rattle.permits.specs.declared.Permits.{Permits}
 
 module _ (core : List ℕ) (rs : List Range) where
@@ -103,9 +103,9 @@ module _ (core : List ℕ) (rs : List Range) where
       abbrev pub Both : Permits → Type 0
       Both p = (p ≡ permitsOf img a core xs rs) × (Exactly (Named core rs (fetchAsked core xs)) (p .fetch) × Exactly (Named core rs (dataAsked img a core xs rs)) (p .data))
 
-      both : (f d : Permit) → f ≡ permitOf core rs (fetchAsked core xs) → d ≡ permitOf core rs (dataAsked img a core xs rs) → Both (permits f d)
+      both : (f d : Permit) → f ≡ permitOf core rs (fetchAsked core xs) → d ≡ permitOf core rs (dataAsked img a core xs rs) → Both (permitsBy f d)
       unfolding permitsOf
-      both f d p q = (ap (λ (x : Permit). permits x d) p ∙ ap (permits (permitOf core rs (fetchAsked core xs))) q, (named (fetchAsked core xs) f p, named (dataAsked img a core xs rs) d q))
+      both f d p q = (ap (λ (x : Permit). permitsBy x d) p ∙ ap (permitsBy (permitOf core rs (fetchAsked core xs))) q, (named (fetchAsked core xs) f p, named (dataAsked img a core xs rs) d q))
 
       pub both-off : SYSCON·PROTEN (getD core 9 0) ≡ false → Both noPermits
       both-off p = both Unnamed Unnamed (off (fetchAsked core xs) p) (off (dataAsked img a core xs rs) p)
@@ -115,5 +115,5 @@ module _ (core : List ℕ) (rs : List Range) where
       unfolding permitOf
       both-taken e = both Unnamed Unnamed (rw e) (rw e)
 
-      pub both-quiet : takes (getD core 5 0) (bestOf xs .level) ≡ false → {f d : Permit} → f ≡ permitOf core rs (access right.Execute (getD core 0 0)) → d ≡ permitOf core rs (dataAt img a core rs) → Both (permits f d)
+      pub both-quiet : takes (getD core 5 0) (bestOf xs .level) ≡ false → {f d : Permit} → f ≡ permitOf core rs (access right.Execute (getD core 0 0)) → d ≡ permitOf core rs (dataAt img a core rs) → Both (permitsBy f d)
       both-quiet e {f} {d} p q = both f d (rw e p) (rw e q)

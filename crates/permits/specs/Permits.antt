@@ -65,16 +65,16 @@ unfoldable pub permitOf : List ℕ → List Range → Access → Permit
 permitOf core rs none = Unnamed
 permitOf core rs (access right address) = cond (asks core address) (lowestOf rs (PSW·PRS (getD core PSW 0)) right address) Unnamed
 
-abbrev pub permits : Permit → Permit → Permits
-permits f d = record { fetch = f; «data» = d }
+abbrev pub permitsBy : Permit → Permit → Permits
+permitsBy f d = record { fetch = f; «data» = d }
 
 -- no range is named
 abbrev pub noPermits : Permits
-noPermits = permits Unnamed Unnamed
+noPermits = permitsBy Unnamed Unnamed
 
 -- both of a step with these address and core registers and these requests
 unfoldable pub permitsOf : List ℕ → List ℕ → List ℕ → List ℕ → List Range → Permits
-permitsOf img a core xs rs = permits (permitOf core rs (fetchAsked core xs)) (permitOf core rs (dataAsked img a core xs rs))
+permitsOf img a core xs rs = permitsBy (permitOf core rs (fetchAsked core xs)) (permitOf core rs (dataAsked img a core xs rs))
 
 -- what is named for an access. The ranges are asked: a range of set PRS that permits it and before which none does, or no range where none permits. They are not: no range
 abbrev pub Named : List ℕ → List Range → Access → Permit → Type 0
