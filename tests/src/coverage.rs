@@ -2,8 +2,11 @@
 
 use crate::model::core::Core;
 use crate::model::event::{Event, Stop, FCD, SYS_CLASS, TRAPS};
+use crate::model::fields::psw::{AV, SAV};
 use crate::model::fields::request::{ENABLED, PRIORITY, REQUESTED};
 use crate::model::fields::PROTECTION_ON;
+use crate::model::integer::advanced;
+use crate::model::operations::Operation::{self, Adds, AddsU, Subs, SubsU};
 use crate::model::operations::NAMES;
 use crate::model::protection::Access;
 use std::fmt;
@@ -11,6 +14,7 @@ use std::fmt;
 /// Numbers of stops that exist, and of refusals.
 const STOPS: [u8; 2] = [11, 12];
 const REFUSALS: [u8; 6] = [1, 2, 3, 4, 5, 6];
+const SATURATING: [Operation; 4] = [Adds, AddsU, Subs, SubsU];
 
 pub struct Coverage {
     pub steps: u64,
@@ -38,6 +42,8 @@ pub struct Coverage {
     named: [[u64; 4]; 3],
     /// Of them those that a later range permits too, and those of which this one is not the set's first.
     overlaps: [[u64; 2]; 3],
+    /// Results of the saturating operations whose AV is not the one of the word written, and of them those that SAV shows.
+    saturated: [[u64; 2]; 4],
     /// By PRS, IO, IS, GW, CDE, and by CDC.
     psw: [u64; 128],
     cdc: [u64; 128],
@@ -65,6 +71,7 @@ impl Default for Coverage {
             told: [0; 4],
             named: [[0; 4]; 3],
             overlaps: [[0; 2]; 3],
+            saturated: [[0; 2]; 4],
             psw: [0; 128],
             cdc: [0; 128],
         }
@@ -129,6 +136,20 @@ impl Coverage {
         self.overlaps.iter().map(|[all, past]| (*past).min(all - past)).min().unwrap()
     }
 
+    /// An integer operation's word, and PSW before and after.
+    pub fn computed(&mut self, operation: Operation, word: u32, before: u32, after: u32) {
+        let place = SATURATING.iter().position(|saturating| *saturating == operation);
+        if let Some(k) = place.filter(|_| advanced(word) != (after & AV != 0)) {
+            self.saturated[k][0] += 1;
+            self.saturated[k][1] += (before & SAV == 0) as u64;
+        }
+    }
+
+    /// The fewest results of a saturating operation that show AV, and SAV, to be taken before saturation.
+    pub fn fewest_saturated(&self) -> u64 {
+        *self.saturated.as_flattened().iter().min().unwrap()
+    }
+
     /// A call's answer, as far as no step tells it.
     pub fn answer(&mut self, answer: u64) {
         match answer as u8 {
@@ -170,6 +191,11 @@ impl Coverage {
             counts.extend((0..4).map(|n| (format!("{access} by range {n}"), self.named[k][n])));
             counts.push((format!("{access} in several ranges"), self.overlaps[k][0]));
             counts.push((format!("{access} past the first"), self.overlaps[k][1]));
+        }
+        for (operation, [av, sav]) in SATURATING.into_iter().zip(self.saturated) {
+            let name = NAMES[operation as usize];
+            counts.push((format!("{name}, AV not the word's"), av));
+            counts.push((format!("{name}, SAV not the word's"), sav));
         }
         counts.extend((0..16).map(|k| (format!("interrupt of source {k}"), self.interrupts[k])));
         for trap in TRAPS {

@@ -5,6 +5,7 @@ use crate::coverage::Coverage;
 use crate::model::core::Core;
 use crate::model::event::{answer::PERMITS, Event, Stop};
 use crate::model::observer::{Half, Observer};
+use crate::model::operations::Operation;
 use crate::model::protection::Access;
 
 /// What came up while a book was kept.
@@ -100,6 +101,10 @@ impl Observer for &mut Watcher {
     fn fetched(&mut self, operation: u8) {
         self.operation = Some(operation);
         self.coverage.fetched[operation as usize] += 1;
+    }
+
+    fn computed(&mut self, operation: Operation, word: u32, before: u32, after: u32) {
+        self.coverage.computed(operation, word, before, after);
     }
 
     fn saves(&mut self, half: Half, core: &Core) {

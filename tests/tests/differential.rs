@@ -15,6 +15,8 @@ const LEAST_RETURNS: u64 = 2_000;
 const LEAST_OTHERS: u64 = 100;
 /// Of each: reads, writes and fetches that several ranges permit, the set's first among them and not.
 const LEAST_OVERLAPS: u64 = 1_000;
+/// Of each saturating operation: results that show AV, and SAV, to be taken before saturation.
+const LEAST_SATURATED: u64 = 100;
 
 fn number(name: &str, default: u64) -> u64 {
     std::env::var(name).map_or(default, |text| text.parse().unwrap_or_else(|_| panic!("{name} is no number")))
@@ -157,6 +159,8 @@ fn the_proved_machine_agrees_with_the_second_model() {
     assert!(missing.is_empty(), "never met: {missing:?}");
     let overlaps = watcher.coverage.fewest_overlaps();
     assert!(overlaps >= LEAST_OVERLAPS, "{overlaps} accesses of a kind only met several ranges");
+    let saturated = watcher.coverage.fewest_saturated();
+    assert!(saturated >= LEAST_SATURATED, "{saturated} results only of an operation show where AV or SAV is taken");
     assert!(met >= LEAST_SERIES, "the conditions held in {met} series only");
     let kept = watcher.kept;
     assert!(kept.returns >= LEAST_RETURNS, "{} returns only were compared", kept.returns);

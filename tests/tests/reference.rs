@@ -1,8 +1,10 @@
-//! The header and the reference page name every number, as document 01 has it, and no other.
+//! The header and the reference page name every number, as document 01 has it, and no other; the page's results and its image hold.
 
 use deqbaryn_tests::host::start;
+use deqbaryn_tests::integer::compute;
 use deqbaryn_tests::model::core::{NAMES as CORE, RECORD};
 use deqbaryn_tests::model::event::{answer, SYS_CLASS, TRAPS, TRAP_NAMES};
+use deqbaryn_tests::model::fields::psw;
 use deqbaryn_tests::model::operations::NAMES;
 use deqbaryn_tests::model::system::offset;
 use std::collections::BTreeMap;
@@ -42,11 +44,29 @@ fn trap_table() -> Numbers {
     table(fixed.chain([("SYS", 256 * SYS_CLASS as u32)]))
 }
 
+fn cells(line: &str) -> Vec<&str> {
+    line[1..line.len() - 1].split('|').map(str::trim).collect()
+}
+
 /// The cells of the page's table rows.
 fn rows() -> impl Iterator<Item = Vec<&'static str>> {
-    PAGE.lines()
-        .filter(|line| line.starts_with("| "))
-        .map(|line| line[1..line.len() - 1].split('|').map(str::trim).collect())
+    PAGE.lines().filter(|line| line.starts_with("| ")).map(cells)
+}
+
+/// The rows of the page's table with that head.
+fn rows_under(head: &str) -> impl Iterator<Item = Vec<&'static str>> + use<'_> {
+    PAGE.lines().skip_while(move |line| *line != head).skip(2).take_while(|line| !line.is_empty()).map(cells)
+}
+
+/// An operation's name and operands: a shift's second one is a decimal count.
+fn operands(cell: &str) -> (&str, u32, u32) {
+    let (name, rest) = cell.split_once(' ').unwrap();
+    let hex = |text| u32::from_str_radix(text, 16).unwrap();
+    match (rest.split_once(", "), rest.split_once(" by ")) {
+        (Some((a, b)), _) => (name, hex(a), hex(b)),
+        (_, Some((a, count))) => (name, hex(a), count.replace('−', "-").parse::<i32>().unwrap() as u32),
+        _ => (name, hex(rest), 0),
+    }
 }
 
 #[test]
@@ -117,6 +137,26 @@ fn the_page_has_every_number_of_the_header() {
         }
     }
     assert_eq!(found, expected);
+}
+
+#[test]
+fn the_page_s_results_hold() {
+    let mut count = 0;
+    for row in rows_under("| operation | result | flags |") {
+        let (name, a, b) = operands(row[0]);
+        for before in [0, psw::C | psw::V | psw::SV | psw::AV | psw::SAV] {
+            let (word, after) = compute(name, a, b, before);
+            assert_eq!(format!("{word:08X}"), row[1], "{row:?}");
+            for flag in row[2].split(", ").filter(|flag| !flag.is_empty()) {
+                let (name, value) = flag.split_once(' ').unwrap();
+                let bit = [("C", psw::C), ("V", psw::V), ("AV", psw::AV)].into_iter().find(|b| b.0 == name).unwrap().1;
+                assert_eq!((after & bit != 0) as u32, number(value), "{row:?}: {name}");
+            }
+            assert!(!row[2].is_empty() || after == before, "{row:?}");
+        }
+        count += 1;
+    }
+    assert_eq!(count, 17);
 }
 
 #[test]

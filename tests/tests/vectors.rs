@@ -1,10 +1,9 @@
 //! The outcomes of an independent emulator, every line, against the proved integer operations.
 
 use deqbaryn_tests::integer::{answer, compute, NAMES};
-use deqbaryn_tests::model::{integer, operations};
-
-const AV: u32 = 1 << 28;
-const SAV: u32 = 1 << 27;
+use deqbaryn_tests::model::fields::psw::AV;
+use deqbaryn_tests::model::integer::{self, advanced};
+use deqbaryn_tests::model::operations;
 
 struct Line {
     name: String,
@@ -28,48 +27,24 @@ fn lines() -> Vec<Line> {
         .collect()
 }
 
-/// The unsaturated low word of a saturating operation: where the later editions take AV from.
-fn unsaturated(line: &Line) -> Option<u32> {
-    match line.name.as_str() {
-        "ADDS" | "ADDS.U" => Some(line.a.wrapping_add(line.b)),
-        "SUBS" | "SUBS.U" => Some(line.a.wrapping_sub(line.b)),
-        _ => None,
-    }
-}
-
-/// PSW with AV taken from a word, and SAV over what it was before.
-fn with_av(psw: u32, before: u32, word: u32) -> u32 {
-    let advanced = (word >> 31) != (word >> 30 & 1);
-    let av = if advanced { AV | SAV } else { before & SAV };
-    psw & !(AV | SAV) | av
-}
-
 #[test]
 fn every_line_agrees() {
     let lines = lines();
     assert_eq!(lines.len(), 3600);
-    for line in &lines {
-        let (result, after) = compute(&line.name, line.a, line.b, line.before);
-        let at = format!("{} {:08X} {:08X} {:08X}", line.name, line.a, line.b, line.before);
-        assert_eq!(result, line.result, "{at}: the word");
-        match unsaturated(line) {
-            None => assert_eq!(after, line.after, "{at}: PSW"),
-            Some(word) => {
-                assert_eq!(after, with_av(after, line.before, result), "{at}: AV of the word written");
-                assert_eq!(with_av(after, line.before, word), line.after, "{at}: PSW by the later rule");
-            }
-        }
+    for l in &lines {
+        let answer = compute(&l.name, l.a, l.b, l.before);
+        assert_eq!(answer, (l.result, l.after), "{} {:08X} {:08X} {:08X}", l.name, l.a, l.b, l.before);
     }
 }
 
-/// The two rules of AV do differ on some lines, so the test above tells them apart.
+/// Of each saturating operation some lines tell AV before saturation from AV of the word written.
 #[test]
-fn the_rules_of_av_differ() {
-    let differ = |l: &&Line| compute(&l.name, l.a, l.b, l.before).1 != l.after;
+fn lines_tell_where_av_is_taken() {
     let lines = lines();
-    let apart: Vec<&Line> = lines.iter().filter(differ).collect();
-    assert_eq!(apart.len(), 31);
-    assert!(apart.iter().all(|l| unsaturated(l).is_some()));
+    for (name, count) in [("ADDS", 4), ("ADDS.U", 10), ("SUBS", 2), ("SUBS.U", 15)] {
+        let apart = lines.iter().filter(|l| l.name == name && advanced(l.result) != (l.after & AV != 0));
+        assert_eq!(apart.count(), count, "{name}");
+    }
 }
 
 /// RSUB has no line of its own: it is SUB with the operands exchanged.
@@ -88,7 +63,7 @@ fn the_second_model_agrees_on_every_line() {
     for l in lines() {
         let place = operations::NAMES.iter().position(|n| *n == l.name).unwrap();
         let answer = integer::compute(operations::Operation::ALL[place], l.a, l.b, l.before);
-        assert_eq!(answer, compute(&l.name, l.a, l.b, l.before), "{} {:08X} {:08X}", l.name, l.a, l.b);
+        assert_eq!(answer, (l.result, l.after), "{} {:08X} {:08X} {:08X}", l.name, l.a, l.b, l.before);
     }
 }
 

@@ -1,4 +1,4 @@
--- Document 01's starred bench values, in its order, as statements about the definitions that the contracts cite.
+-- Document 01's starred bench values, in its order, AV of ADDS by 02, point 3, as statements about the definitions that the contracts cite.
 use Prim.Native.Nat.{ℕ, _^_, _<_}
 use mathlib.Core.Path.{_≡_}
 use mathlib.Core.Bool.{true, false}
@@ -15,7 +15,7 @@ use Rattle.interrupts.specs.Sources.{takes}
 -- "Integer results". The word that is -31 as a shift count is FFFFFFE1, and that for -32 is FFFFFFE0.
 pub record IntegerValues : Type 0 where
   pub add : addOf 0x7FFF_FFFF 1 ≡ record { word = 0x8000_0000; v = true; av = true }
-  pub adds : addsOf 0x8000_0000 0x8000_0000 ≡ record { word = 0x8000_0000; v = true; av = true }
+  pub adds : addsOf 0x8000_0000 0x8000_0000 ≡ record { word = 0x8000_0000; v = true; av = false }
   pub sha-word : shaOf 0x8000_0000 0xFFFF_FFE1 .word ≡ 0xFFFF_FFFF
   pub sha-carry : shaOf 0x8000_0000 0xFFFF_FFE1 .c ≡ false
   pub sh : (a : ℕ) → a < 2 ^ 32 → shOf a 0xFFFF_FFE0 ≡ 0

@@ -1,4 +1,4 @@
-// Document 01's bench values, computed and printed. The file stdout has the values that the document gives.
+// Document 01's bench values, AV of ADDS by 02, point 3, computed and printed. The file stdout has the values that the documents give.
 
 use areas::link::Link;
 use areas::link::address_of;

@@ -58,14 +58,13 @@ pub fn with_carry(carry: bool, z: i64) -> Carried
     }
 }
 
-// A result held within a range.
+// A result held within a range: AV is the unsaturated word's.
 pub fn saturated(lo: i64, hi: i64, z: i64) -> Flagged
     ensures { λ r. ⌜ r ≡ saturatedOf lo hi z ⌝ }
 {
-    let w = low_bits(clamped(lo, hi, z));
     Flagged {
-        word: w,
+        word: low_bits(clamped(lo, hi, z)),
         v: !in_range(lo, hi, z),
-        av: advanced(w),
+        av: advanced(low_bits(z)),
     }
 }

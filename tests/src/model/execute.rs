@@ -66,7 +66,11 @@ impl<O: Observer> Machine<'_, O> {
             Add | Sub | Rsub | Addx | Addc | Subx | Subc | Adds | AddsU | Subs | SubsU | Mul | And | Or | Xor
             | Nand | Nor | Xnor | Andn | Orn | Sh | Sha | Min | MinU | Max | MaxU | Abs | Absdif | Eq | Ne | Lt
             | LtU | Ge | GeU | Clz | Clo | Cls | Mov =>
-                |operation| (self.core.d[i.c], self.core.psw) = integer::compute(operation, x, y, psw),
+                |operation| {
+                    let (word, after) = integer::compute(operation, x, y, psw);
+                    (self.core.d[i.c], self.core.psw) = (word, after);
+                    self.observer.computed(operation, word, psw, after);
+                },
             Nop => {}
             MovA => self.set_pointer(i.c, y)?,
             MovD => self.core.d[i.c] = self.core.a[i.a],

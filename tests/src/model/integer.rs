@@ -3,25 +3,30 @@
 use super::fields::psw::{AV, C, SAV, SV, V};
 use super::operations::Operation::{self, *};
 
-/// The word of an exact result with V, AV and their sticky flags.
-fn flagged(word: u32, overflow: bool, psw: u32) -> (u32, u32) {
+/// PSW with V, AV and their sticky flags. AV is that of the exact result's low word, whether it is the word written or not.
+fn flagged(exact: i64, overflow: bool, psw: u32) -> u32 {
     let mut psw = psw & !(V | AV);
     if overflow {
         psw |= V | SV;
     }
-    if (word ^ word << 1) >> 31 == 1 {
+    if advanced(exact as u32) {
         psw |= AV | SAV;
     }
-    (word, psw)
+    psw
+}
+
+/// Bit 31 against bit 30.
+pub fn advanced(word: u32) -> bool {
+    (word ^ word << 1) >> 31 == 1
 }
 
 fn wrapped(exact: i64, psw: u32) -> (u32, u32) {
-    flagged(exact as u32, exact != exact as i32 as i64, psw)
+    (exact as u32, flagged(exact, exact != exact as i32 as i64, psw))
 }
 
 fn saturated(exact: i64, least: i64, most: i64, psw: u32) -> (u32, u32) {
-    let word = exact.clamp(least, most);
-    flagged(word as u32, word != exact, psw)
+    let held = exact.clamp(least, most);
+    (held as u32, flagged(exact, held != exact, psw))
 }
 
 fn signed(exact: i64, psw: u32) -> (u32, u32) {

@@ -2,6 +2,7 @@
 
 use super::core::Core;
 use super::event::{Event, Stop};
+use super::operations::Operation;
 use super::protection::Access;
 
 #[derive(Debug, Clone, Copy, PartialEq, Eq)]
@@ -17,6 +18,8 @@ pub trait Observer {
     fn permitted(&mut self, _core: &Core, _access: Access, _address: u32, _by: Option<usize>) {}
     /// A record was fetched; its operation's number.
     fn fetched(&mut self, _operation: u8) {}
+    /// An integer operation was done: its word, and PSW before and after.
+    fn computed(&mut self, _operation: Operation, _word: u32, _before: u32, _after: u32) {}
     /// A save is about to be made, and finds these registers.
     fn saves(&mut self, _half: Half, _core: &Core) {}
     /// An interrupt's or a trap's entry was made, FCD's too.
@@ -48,6 +51,11 @@ impl<A: Observer, B: Observer> Observer for (A, B) {
     fn fetched(&mut self, operation: u8) {
         self.0.fetched(operation);
         self.1.fetched(operation);
+    }
+
+    fn computed(&mut self, operation: Operation, word: u32, before: u32, after: u32) {
+        self.0.computed(operation, word, before, after);
+        self.1.computed(operation, word, before, after);
     }
 
     fn saves(&mut self, half: Half, core: &Core) {
