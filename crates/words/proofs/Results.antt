@@ -17,6 +17,6 @@ pub carried-is : (c : Bool) {x z : ℤ} {r : Flagged} → x ≡ z → r ≡ wrap
 unfolding wrappedOf carriedOf
 carried-is c e p = rw (p, e)
 
-pub saturated-is : {lo′ lo hi′ hi z′ z k k′ : ℤ} {w u : ℕ} {f g : Bool} → lo′ ≡ lo → hi′ ≡ hi → z′ ≡ z → k ≡ clamp lo′ hi′ z′ → k′ ≡ k → w ≡ low k′ → f ≡ within lo′ hi′ z′ → u ≡ low z′ → g ≡ advance u → _≡_ {A = Flagged} (record { word = w; v = not f; av = g }) (saturatedOf lo hi z)
+pub saturated-is : {lo′ lo hi′ hi z′ z k k′ : ℤ} {u w : ℕ} {f g : Bool} → lo′ ≡ lo → hi′ ≡ hi → z′ ≡ z → u ≡ low z′ → k ≡ clamp lo′ hi′ z′ → k′ ≡ k → w ≡ low k′ → f ≡ within lo′ hi′ z′ → g ≡ advance u → _≡_ {A = Flagged} (record { word = w; v = not f; av = g }) (saturatedOf lo hi z)
 unfolding saturatedOf
-saturated-is a b e k l p q u r = rw (← a, ← b, ← e, r, u, q, p, l, k)
+saturated-is a b e u k l p q r = rw (← a, ← b, ← e, r, u, q, p, l, k)

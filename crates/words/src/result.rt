@@ -58,13 +58,15 @@ pub fn with_carry(carry: bool, z: i64) -> Carried
     }
 }
 
-// A result held within a range: AV is the unsaturated word's.
+// A result held within a range. AV is taken before saturation (02, point 3).
 pub fn saturated(lo: i64, hi: i64, z: i64) -> Flagged
     ensures { λ r. ⌜ r ≡ saturatedOf lo hi z ⌝ }
 {
+    let unsaturated = low_bits(z);
+    let written = low_bits(clamped(lo, hi, z));
     Flagged {
-        word: low_bits(clamped(lo, hi, z)),
+        word: written,
         v: !in_range(lo, hi, z),
-        av: advanced(low_bits(z)),
+        av: advanced(unsaturated),
     }
 }

@@ -17,4 +17,4 @@ saturated-spec =
     (λ c κs. search needs)
     (λ c κs. search needs)
     (λ c κs. search needs)
-    (λ c. let s = c .before .before .before .before .before in saturated-is (toZ-ofZ (s .fits .lo)) (toZ-ofZ (s .fits .hi)) (toZ-ofZ (s .fits .z)) (c .before .before .before .before .clamped .ensures) (returned w64 (c .before .before .before .before .clamped .ok) refl) (c .before .before .before .low-bits .ensures) (c .before .before .in-range .ensures) (c .before .low-bits2 .ensures) (c .advanced .ensures)))
+    (λ c. let s = c .before .before .before .before .before in saturated-is (toZ-ofZ (s .fits .lo)) (toZ-ofZ (s .fits .hi)) (toZ-ofZ (s .fits .z)) (c .before .before .before .before .low-bits .ensures) (c .before .before .before .clamped .ensures) (returned w64 (c .before .before .before .clamped .ok) refl) (c .before .before .low-bits2 .ensures) (c .before .in-range .ensures) (c .advanced .ensures)))
