@@ -1,5 +1,6 @@
 //! What a series of steps has met.
 
+use crate::model::code::Instruction;
 use crate::model::core::Core;
 use crate::model::event::{Event, Stop, FCD, SYS_CLASS, TRAPS};
 use crate::model::fields::psw::{AV, SAV};
@@ -20,7 +21,7 @@ pub struct Coverage {
     pub steps: u64,
     pub fetched: [u64; 79],
     /// Executed without a trap of its own.
-    pub done: [u64; 79],
+    done: [u64; 79],
     instructions: u64,
     interrupts: [u64; 16],
     /// FCD entries after an instruction's own save, after an interrupt's and after another trap's.
@@ -136,10 +137,13 @@ impl Coverage {
         self.overlaps.iter().map(|[all, past]| (*past).min(all - past)).min().unwrap()
     }
 
-    /// An integer operation's word, and PSW before and after.
-    pub fn computed(&mut self, operation: Operation, word: u32, before: u32, after: u32) {
-        let place = SATURATING.iter().position(|saturating| *saturating == operation);
-        if let Some(k) = place.filter(|_| advanced(word) != (after & AV != 0)) {
+    /// An instruction without a trap of its own, with PSW before it and the registers after it.
+    pub fn done(&mut self, instruction: Instruction, before: u32, core: &Core) {
+        self.done[instruction.operation as usize] += 1;
+        let Some(k) = SATURATING.iter().position(|operation| *operation == instruction.operation) else {
+            return;
+        };
+        if advanced(core.d[instruction.c]) != (core.psw & AV != 0) {
             self.saturated[k][0] += 1;
             self.saturated[k][1] += (before & SAV == 0) as u64;
         }

@@ -2,10 +2,10 @@
 
 use crate::book::{Book, Registers};
 use crate::coverage::Coverage;
+use crate::model::code::Instruction;
 use crate::model::core::Core;
 use crate::model::event::{answer::PERMITS, Event, Stop};
 use crate::model::observer::{Half, Observer};
-use crate::model::operations::Operation;
 use crate::model::protection::Access;
 
 /// What came up while a book was kept.
@@ -28,9 +28,11 @@ pub struct Watcher {
     pub kept: Kept,
     /// The first thing at which the machine and the book differ.
     pub fault: Option<String>,
+    /// Of the latest step: what it began with, and what it fetched.
     requests: [u32; 16],
     lcx: u32,
-    operation: Option<u8>,
+    psw: u32,
+    instruction: Option<Instruction>,
     /// The latest step's accesses, each with the numbers of the ranges that permit it.
     permitted: Vec<(Access, Vec<usize>)>,
     saves: Vec<(Half, Registers)>,
@@ -86,7 +88,8 @@ impl Observer for &mut Watcher {
         self.coverage.begins(core);
         self.requests = core.requests;
         self.lcx = core.lcx;
-        self.operation = None;
+        self.psw = core.psw;
+        self.instruction = None;
         self.permitted.clear();
         self.entries.clear();
         self.saves.clear();
@@ -98,13 +101,9 @@ impl Observer for &mut Watcher {
         }
     }
 
-    fn fetched(&mut self, operation: u8) {
-        self.operation = Some(operation);
-        self.coverage.fetched[operation as usize] += 1;
-    }
-
-    fn computed(&mut self, operation: Operation, word: u32, before: u32, after: u32) {
-        self.coverage.computed(operation, word, before, after);
+    fn fetched(&mut self, instruction: Instruction) {
+        self.instruction = Some(instruction);
+        self.coverage.fetched[instruction.operation as usize] += 1;
     }
 
     fn saves(&mut self, half: Half, core: &Core) {
@@ -138,11 +137,11 @@ impl Observer for &mut Watcher {
         self.book = None;
     }
 
-    fn ends(&mut self, outcome: Result<Event, Stop>) {
+    fn ends(&mut self, outcome: Result<Event, Stop>, core: &Core) {
         self.coverage.outcome(outcome);
         self.coverage.entries(&self.entries);
-        if let (Some(operation), Ok(Event::Instruction)) = (self.operation, outcome) {
-            self.coverage.done[operation as usize] += 1;
+        if let (Some(instruction), Ok(Event::Instruction)) = (self.instruction, outcome) {
+            self.coverage.done(instruction, self.psw, core);
         }
         self.enter_in_book(outcome);
     }

@@ -66,11 +66,7 @@ impl<O: Observer> Machine<'_, O> {
             Add | Sub | Rsub | Addx | Addc | Subx | Subc | Adds | AddsU | Subs | SubsU | Mul | And | Or | Xor
             | Nand | Nor | Xnor | Andn | Orn | Sh | Sha | Min | MinU | Max | MaxU | Abs | Absdif | Eq | Ne | Lt
             | LtU | Ge | GeU | Clz | Clo | Cls | Mov =>
-                |operation| {
-                    let (word, after) = integer::compute(operation, x, y, psw);
-                    (self.core.d[i.c], self.core.psw) = (word, after);
-                    self.observer.computed(operation, word, psw, after);
-                },
+                |operation| (self.core.d[i.c], self.core.psw) = integer::compute(operation, x, y, psw),
             Nop => {}
             MovA => self.set_pointer(i.c, y)?,
             MovD => self.core.d[i.c] = self.core.a[i.a],

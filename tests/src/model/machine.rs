@@ -41,7 +41,7 @@ impl<'a, O: Observer> Machine<'a, O> {
     pub fn step(&mut self) -> Result<Event, Stop> {
         self.observer.begins(&self.core);
         let outcome = self.step_unobserved();
-        self.observer.ends(outcome);
+        self.observer.ends(outcome, &self.core);
         outcome
     }
 
@@ -64,7 +64,7 @@ impl<'a, O: Observer> Machine<'a, O> {
         let Some(instruction) = self.code.fetch(pc) else {
             return self.trap(CODE, pc);
         };
-        self.observer.fetched(instruction.operation as u8);
+        self.observer.fetched(instruction);
         match self.execute(instruction) {
             Ok(event) => Ok(event),
             Err(Undone::Stop(stop)) => Err(stop),

@@ -1,8 +1,8 @@
 //! What a watcher is told of the steps as they are made. Without a watcher it costs nothing.
 
+use super::code::Instruction;
 use super::core::Core;
 use super::event::{Event, Stop};
-use super::operations::Operation;
 use super::protection::Access;
 
 #[derive(Debug, Clone, Copy, PartialEq, Eq)]
@@ -16,10 +16,8 @@ pub trait Observer {
     fn begins(&mut self, _core: &Core) {}
     /// An access was permitted; the range that did, where protection asked for one.
     fn permitted(&mut self, _core: &Core, _access: Access, _address: u32, _by: Option<usize>) {}
-    /// A record was fetched; its operation's number.
-    fn fetched(&mut self, _operation: u8) {}
-    /// An integer operation was done: its word, and PSW before and after.
-    fn computed(&mut self, _operation: Operation, _word: u32, _before: u32, _after: u32) {}
+    /// A record was fetched.
+    fn fetched(&mut self, _instruction: Instruction) {}
     /// A save is about to be made, and finds these registers.
     fn saves(&mut self, _half: Half, _core: &Core) {}
     /// An interrupt's or a trap's entry was made, FCD's too.
@@ -30,8 +28,8 @@ pub trait Observer {
     fn stored(&mut self, _offset: usize, _size: usize) {}
     /// MTCR wrote FCX or PCXI.
     fn wrote_head(&mut self) {}
-    /// How the step ended.
-    fn ends(&mut self, _outcome: Result<Event, Stop>) {}
+    /// How the step ended, and with which registers.
+    fn ends(&mut self, _outcome: Result<Event, Stop>, _core: &Core) {}
 }
 
 impl Observer for () {}
@@ -48,14 +46,9 @@ impl<A: Observer, B: Observer> Observer for (A, B) {
         self.1.permitted(core, access, address, by);
     }
 
-    fn fetched(&mut self, operation: u8) {
-        self.0.fetched(operation);
-        self.1.fetched(operation);
-    }
-
-    fn computed(&mut self, operation: Operation, word: u32, before: u32, after: u32) {
-        self.0.computed(operation, word, before, after);
-        self.1.computed(operation, word, before, after);
+    fn fetched(&mut self, instruction: Instruction) {
+        self.0.fetched(instruction);
+        self.1.fetched(instruction);
     }
 
     fn saves(&mut self, half: Half, core: &Core) {
@@ -83,8 +76,8 @@ impl<A: Observer, B: Observer> Observer for (A, B) {
         self.1.wrote_head();
     }
 
-    fn ends(&mut self, outcome: Result<Event, Stop>) {
-        self.0.ends(outcome);
-        self.1.ends(outcome);
+    fn ends(&mut self, outcome: Result<Event, Stop>, core: &Core) {
+        self.0.ends(outcome, core);
+        self.1.ends(outcome, core);
     }
 }
