@@ -15,6 +15,7 @@ use std::fmt;
 /// Numbers of stops that exist, and of refusals.
 const STOPS: [u8; 2] = [11, 12];
 const REFUSALS: [u8; 6] = [1, 2, 3, 4, 5, 6];
+/// The operations with saturation.
 const SATURATING: [Operation; 4] = [Adds, AddsU, Subs, SubsU];
 
 pub struct Coverage {

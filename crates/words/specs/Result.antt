@@ -8,12 +8,12 @@ use Rattle.words.specs.Value.{low, within, clamp, least, largest}
 use Rattle.words.specs.declared.result.Flagged.{Flagged}
 use Rattle.words.specs.declared.result.Carried.{Carried}
 
--- AV by a word: bit 31 differs from bit 30
+-- AV of a word: bit 31 differs from bit 30
 unfoldable pub advance : ℕ → Bool
 unfolding bit
 advance w = not (eqb (bit 31 w) (bit 30 w))
 
--- a signed result: the low 32 bits are written. V: it is no signed word. AV: by the word written
+-- a signed result: the low 32 bits are written. V: it is no signed word. AV: of the word written
 unfoldable pub wrappedOf : ℤ → Flagged
 wrappedOf z = record { word = low z; v = not (within least largest z); av = advance (low z) }
 
@@ -21,6 +21,6 @@ wrappedOf z = record { word = low z; v = not (within least largest z); av = adva
 unfoldable pub carriedOf : Bool → ℤ → Carried
 carriedOf c z = record { word = low z; c = c; v = not (within least largest z); av = advance (low z) }
 
--- a result with saturation: from lo to hi it is written, and else the end that it lies past. V: it lies past one. AV: by the low 32 bits before saturation (02, point 3)
+-- a result with saturation: from lo to hi it is written, and else the end that it lies past. V: it lies past one. AV: of the unsaturated low word (02, point 3)
 unfoldable pub saturatedOf : ℤ → ℤ → ℤ → Flagged
 saturatedOf lo hi z = record { word = low (clamp lo hi z); v = not (within lo hi z); av = advance (low z) }
