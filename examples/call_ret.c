@@ -1,5 +1,5 @@
 /* Replays the image CALL, RET through the host library, and shows two areas of the
- * window after each step. */
+ * window after each step. All memory is in the first window: the second one is empty. */
 #include <inttypes.h>
 #include <stdio.h>
 
@@ -39,6 +39,10 @@ static void show_area(size_t n) {
 }
 
 int main(void) {
+    if (deqbaryn_version() != DEQBARYN_VERSION) {
+        printf("version %" PRIu32 ", not %d\n", deqbaryn_version(), DEQBARYN_VERSION);
+        return 1;
+    }
     /* the free list: all areas, upward */
     for (uint32_t n = 0; n + 1 < AREAS; n++)
         put_word(window, 64 * n, 0xD0001 + n);
@@ -50,8 +54,8 @@ int main(void) {
     for (uint32_t n = 8; n < 16; n++)
         put_word(core, D + 4 * n, n);
 
-    uint64_t answer =
-        deqbaryn_start(core, sizeof core, BASE, window, sizeof window, image, sizeof image);
+    uint64_t answer = deqbaryn_start(core, sizeof core, BASE, window, sizeof window, 0, NULL, 0,
+                                     image, sizeof image);
     if ((answer & 0xFF) != DEQBARYN_ACCEPTED) {
         printf("refused %u %u\n", (unsigned)(answer >> 8 & 0xFF), (unsigned)(answer >> 32));
         return 1;
@@ -61,8 +65,8 @@ int main(void) {
     int steps = 0;
     do {
         uint32_t pc = word_at(core, PC);
-        answer =
-            deqbaryn_step(core, sizeof core, BASE, window, sizeof window, image, sizeof image);
+        answer = deqbaryn_step(core, sizeof core, BASE, window, sizeof window, 0, NULL, 0, image,
+                               sizeof image);
         unsigned number = answer >> 8 & 0xFF, tin = answer >> 16 & 0xFF;
         switch (answer & 0xFF) {
         case DEQBARYN_INSTRUCTION:

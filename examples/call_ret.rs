@@ -1,12 +1,19 @@
 //! Replays the image CALL, RET through the host library, and shows two areas of the window after each step.
+//! All memory is in the first window: the second one is empty.
+
+use std::ptr::{null, null_mut};
 
 extern "C" {
+    fn deqbaryn_version() -> u32;
     fn deqbaryn_start(
         core: *const u8,
         core_len: usize,
         base: u32,
         window: *const u8,
         window_len: usize,
+        second_base: u32,
+        second: *const u8,
+        second_len: usize,
         image: *const u8,
         image_len: usize,
     ) -> u64;
@@ -16,10 +23,16 @@ extern "C" {
         base: u32,
         window: *mut u8,
         window_len: usize,
+        second_base: u32,
+        second: *mut u8,
+        second_len: usize,
         image: *const u8,
         image_len: usize,
     ) -> u64;
 }
+
+// DEQBARYN_VERSION of the header that the declarations above are taken from
+const VERSION: u32 = 2;
 
 const BASE: u32 = 0xD000_0000;
 const AREAS: usize = 64;
@@ -50,14 +63,16 @@ fn word_at(bytes: &[u8], i: usize) -> u32 {
 
 fn start(core: &[u8], window: &[u8]) -> u64 {
     let (c, w, i) = (core, window, &IMAGE);
-    // SAFETY: each pointer goes with the length of its slice.
-    unsafe { deqbaryn_start(c.as_ptr(), c.len(), BASE, w.as_ptr(), w.len(), i.as_ptr(), i.len()) }
+    // SAFETY: each pointer goes with the length of its slice; one of length 0 may be null.
+    unsafe { deqbaryn_start(c.as_ptr(), c.len(), BASE, w.as_ptr(), w.len(), 0, null(), 0, i.as_ptr(), i.len()) }
 }
 
 fn step(core: &mut [u8], window: &mut [u8]) -> u64 {
     let (c, w, i) = (core, window, &IMAGE);
-    // SAFETY: each pointer goes with the length of its slice, and the slices do not overlap.
-    unsafe { deqbaryn_step(c.as_mut_ptr(), c.len(), BASE, w.as_mut_ptr(), w.len(), i.as_ptr(), i.len()) }
+    // SAFETY: as for a start, and the slices do not overlap.
+    unsafe {
+        deqbaryn_step(c.as_mut_ptr(), c.len(), BASE, w.as_mut_ptr(), w.len(), 0, null_mut(), 0, i.as_ptr(), i.len())
+    }
 }
 
 fn show_area(window: &[u8], n: usize) {
@@ -69,6 +84,12 @@ fn show_area(window: &[u8], n: usize) {
 }
 
 fn main() {
+    // SAFETY: no arguments; every version from 2 on has this function.
+    let version = unsafe { deqbaryn_version() };
+    if version != VERSION {
+        println!("version {version}, not {VERSION}");
+        std::process::exit(1);
+    }
     let mut core = [0; 616];
     let mut window = [0; 64 * AREAS];
     // the free list: all areas, upward

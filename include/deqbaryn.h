@@ -1,4 +1,5 @@
-/* The host library: a start, a step and a run of the context save area machine.
+/* The host library: a start, a step and a run of the context save area machine, and
+ * the version of this interface.
  *
  * docs/REFERENCE.md says what every number here means: the bits of the registers, the
  * image byte by byte, what each operation does, and each answer. This file names them.
@@ -6,11 +7,18 @@
  * Link target/staticlib/libdeqbaryn.a, which `rt staticlib deqbaryn` writes (x86-64),
  * to C99 or later, or to C++. It needs memset and nothing else from outside.
  *
- * The host lends each call a core record, a data window whose first byte has the
- * address `base`, and a code image. No pointer is kept after a call, and nothing is
- * held between calls. Any bytes and any lengths may be passed. A slice of length 0
- * may have any pointer, NULL too. Of a step's or a run's three slices none may
- * overlap another.
+ * Before its first call a host asks whether the library is of this header's version:
+ *
+ *   if (deqbaryn_version() != DEQBARYN_VERSION)
+ *       abort();
+ *
+ * The host lends each call four slices: a core record, two data windows and a code
+ * image. The first byte of the first window has the address `base`, that of the
+ * second one `second_base`. No pointer is kept after a call, and nothing is held
+ * between calls. Any bytes, addresses and lengths may be passed. A slice of length 0
+ * may have any pointer, NULL too; a second window of length 0 may have any address
+ * too. None of the four lent slices of a step or a run may overlap another in the
+ * host's memory. Windows that overlap by their addresses are refused, with 13.
  *
  * The core record is 616 bytes, 154 little-endian words:
  *
@@ -32,7 +40,7 @@
  *   bits    what
  *    7:0    the kind, below
  *   15:8    the source of an interrupt, the class of a trap,
- *           the number of a stop (11, 12) or of a refusal (1 to 6)
+ *           the number of a stop (11, 12) or of a refusal (1 to 6, 13)
  *   23:16   the TIN of a trap
  *   26:24   of a step: the lowest range that permits the fetch
  *   29:27   of a step: the lowest range that permits the data access
@@ -54,6 +62,10 @@
 extern "C" {
 #endif
 
+/* The version of this interface. It goes up with every change of it; the interface
+ * without deqbaryn_version, which had one window, counts as 1. */
+#define DEQBARYN_VERSION 2
+
 #define DEQBARYN_CORE_BYTES 616
 
 enum deqbaryn_kind {
@@ -66,22 +78,26 @@ enum deqbaryn_kind {
     DEQBARYN_ACCEPTED = 6      /* of a start alone */
 };
 
-/* The number of a refusal: the first rule that is broken, in this order. A start is
- * tried with all six, a step and a run with the first four. */
+/* The number of a refusal: the first rule that is broken. The rules stand here in the
+ * order in which they are tried: 1 on the first window, 1 on the second, 13, 2, 3, 4,
+ * then 5 and 6 on each link in turn, of the free list and then of the used one. A start
+ * is tried with all seven, a step and a run with the first five. */
 enum deqbaryn_refusal {
-    DEQBARYN_BAD_WINDOW = 1,
-    DEQBARYN_BAD_TABLE = 2,    /* place: the entry, from 1; 0: the count, or the table
-                                  itself cut short */
-    DEQBARYN_BAD_RECORD = 3,   /* place: the record, from 0 over all bodies */
+    DEQBARYN_BAD_WINDOW = 1,       /* either window; a second one of length 0 passes */
+    DEQBARYN_WINDOWS_OVERLAP = 13, /* the windows have an address in common; tried
+                                      after 1 and before 2 */
+    DEQBARYN_BAD_TABLE = 2,        /* place: the entry, from 1; 0: the count, or the
+                                      table itself cut short */
+    DEQBARYN_BAD_RECORD = 3,       /* place: the record, from 0 over all bodies */
     DEQBARYN_ODD_PC = 4,
-    DEQBARYN_LINK_OUTSIDE = 5, /* a list's link names no area of the window */
-    DEQBARYN_AREA_TWICE = 6    /* an area met a second time on the lists */
+    DEQBARYN_LINK_OUTSIDE = 5,     /* a list's link names an area in neither window */
+    DEQBARYN_AREA_TWICE = 6        /* an area met a second time on the lists */
 };
 
 /* The number of a stop. */
 enum deqbaryn_stop {
     DEQBARYN_NO_FREE_AREA = 11, /* a save with FCX link 0 */
-    DEQBARYN_AREA_OUTSIDE = 12  /* the area of a save or a return is not in the window */
+    DEQBARYN_AREA_OUTSIDE = 12  /* the area of a save or return is in neither window */
 };
 
 /* A trap as deqbaryn_answer_trap has it: 256 * class + TIN. */
@@ -100,7 +116,7 @@ enum deqbaryn_trap {
     DEQBARYN_TRAP_CTYP = 0x0306, /* context type: PCXI.UL is the other half's */
     DEQBARYN_TRAP_NEST = 0x0307, /* RFE with a call depth above 0 */
     DEQBARYN_TRAP_CODE = 0x0401, /* no record begins at PC */
-    DEQBARYN_TRAP_DATA = 0x0402, /* data not wholly in the window */
+    DEQBARYN_TRAP_DATA = 0x0402, /* data not wholly in one window */
     DEQBARYN_TRAP_OVF = 0x0501,  /* TRAPV with V 1 */
     DEQBARYN_TRAP_SOVF = 0x0502, /* TRAPSV with SV 1 */
     DEQBARYN_TRAP_SYS = 0x0600   /* SYSCALL: to 0x06FF, with its TIN */
@@ -201,26 +217,32 @@ enum deqbaryn_offset {
     DEQBARYN_OFFSET_LCX = 0xFE3C
 };
 
-/* Tries the six rules of a start, with PC, FCX and PCXI of the record: accepted, or
+/* The version of the library: DEQBARYN_VERSION of the header it was built with. */
+uint32_t deqbaryn_version(void);
+
+/* Tries the seven rules of a start, with PC, FCX and PCXI of the record: accepted, or
  * refused. Nothing changes. What holds of the lists over any steps and runs from an
  * accepted start: docs/REFERENCE.md, "Series of calls", proved as docs/CLAIMS.md has
  * it under demand 3. */
-uint64_t deqbaryn_start(const uint8_t *core, size_t core_len, uint32_t base,
-                        const uint8_t *window, size_t window_len,
+uint64_t deqbaryn_start(const uint8_t *core, size_t core_len,
+                        uint32_t base, const uint8_t *window, size_t window_len,
+                        uint32_t second_base, const uint8_t *second, size_t second_len,
                         const uint8_t *image, size_t image_len);
 
-/* Makes one step. Registers, request words and window are then as it left them; a
- * stop or a refusal (rules 1 to 4) leaves all as it was. */
-uint64_t deqbaryn_step(uint8_t *core, size_t core_len, uint32_t base,
-                       uint8_t *window, size_t window_len,
+/* Makes one step. Registers, request words and windows are then as it left them; a
+ * stop or a refusal (rules 1, 13, 2, 3, 4) leaves all as it was. */
+uint64_t deqbaryn_step(uint8_t *core, size_t core_len,
+                       uint32_t base, uint8_t *window, size_t window_len,
+                       uint32_t second_base, uint8_t *second, size_t second_len,
                        const uint8_t *image, size_t image_len);
 
 /* Makes n steps, or those up to the first stop. The kind is that of the last step, or
  * of the stop; earlier traps and interrupts are not told. n = 0 answers an instruction,
  * or the refusal. A stop leaves all as the last step made left it; a refusal leaves
  * all as it was. */
-uint64_t deqbaryn_run(uint8_t *core, size_t core_len, uint32_t base,
-                      uint8_t *window, size_t window_len,
+uint64_t deqbaryn_run(uint8_t *core, size_t core_len,
+                      uint32_t base, uint8_t *window, size_t window_len,
+                      uint32_t second_base, uint8_t *second, size_t second_len,
                       const uint8_t *image, size_t image_len, uint32_t n);
 
 /* The parts of an answer. */

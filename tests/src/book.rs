@@ -1,12 +1,12 @@
 //! The book of demand 3: a row of free links and a pile of entries, fed with each step's saves and return.
 
-use crate::model::checks::area;
 use crate::model::core::Core;
 use crate::model::event::Stop;
 use crate::model::fields::{pcxi::UL, LINK};
 use crate::model::image::word;
 use crate::model::observer::Half;
-use std::collections::VecDeque;
+use crate::model::windows::{address_of, Windows};
+use std::collections::{BTreeSet, VecDeque};
 
 /// The registers of a half by name. PSW is in the upper one alone; the saved PC is in neither.
 #[derive(Debug, Clone, Copy, PartialEq, Eq)]
@@ -28,7 +28,7 @@ impl Registers {
         Registers { pcxi: core.pcxi, psw, a: a.try_into().unwrap(), d: d.try_into().unwrap() }
     }
 
-    fn of_area(area: &[u8], half: Half) -> Registers {
+    fn of_area(area: &[u8; 64], half: Half) -> Registers {
         let at = |k: usize| word(area, 4 * k);
         Registers {
             pcxi: at(0),
@@ -46,17 +46,20 @@ pub struct Entry {
     pub registers: Registers,
 }
 
-/// The links met from a head; none where the walk leaves the window or does not end.
-fn met(base: u32, window: &[u8], head: u32) -> Option<Vec<u32>> {
+/// Both windows can hold no more areas.
+const MOST_AREAS: usize = 2048;
+
+/// The links met from a head; none where the walk leaves both windows or does not end.
+fn met(windows: &Windows<Vec<u8>>, head: u32) -> Option<Vec<u32>> {
     let mut links = Vec::new();
     let mut link = head & LINK;
     while link != 0 {
-        let at = area(base, window.len(), link)?;
-        if links.len() == window.len() / 64 {
+        let area: &[u8; 64] = windows.part(address_of(link))?;
+        if links.len() == MOST_AREAS {
             return None;
         }
         links.push(link);
-        link = word(window, at) & LINK;
+        link = word(area, 0) & LINK;
     }
     Some(links)
 }
@@ -65,38 +68,39 @@ pub struct Book {
     row: VecDeque<u32>,
     /// The last one is on top.
     pile: Vec<Entry>,
-    /// The areas on a list at the start, by their index in the window.
-    listed: Vec<bool>,
+    /// The addresses of the areas on a list at the start.
+    listed: BTreeSet<u32>,
     /// How many entries at the pile's bottom were read at the start.
     pub from_start: usize,
 }
 
 impl Book {
     /// The book of an accepted start.
-    pub fn begin(core: &Core, base: u32, window: &[u8]) -> Book {
-        let place = |link: u32| area(base, window.len(), link).expect("accepted");
-        let row: VecDeque<u32> = met(base, window, core.fcx).expect("accepted").into();
+    pub fn begin(core: &Core, windows: &Windows<Vec<u8>>) -> Book {
+        let row: VecDeque<u32> = met(windows, core.fcx).expect("accepted").into();
         let mut pile = Vec::new();
         let mut head = core.pcxi;
         while head & LINK != 0 {
             let link = head & LINK;
             let half = if head & UL != 0 { Half::Upper } else { Half::Lower };
-            let registers = Registers::of_area(&window[place(link)..][..64], half);
+            let registers = Registers::of_area(windows.part(address_of(link)).expect("accepted"), half);
             pile.push(Entry { link, half, registers });
             head = registers.pcxi;
         }
         pile.reverse();
-        let mut listed = vec![false; window.len() / 64];
-        for link in row.iter().copied().chain(pile.iter().map(|e| e.link)) {
-            listed[place(link) / 64] = true;
-        }
+        let listed = row.iter().copied().chain(pile.iter().map(|e| e.link)).map(address_of).collect();
         let from_start = pile.len();
         Book { row, pile, listed, from_start }
     }
 
-    /// Whether a store to these bytes of the window reaches a listed area.
-    pub fn reached(&self, offset: usize, size: usize) -> bool {
-        self.listed[offset / 64] || self.listed[(offset + size - 1) / 64]
+    /// The links of the row, and those of the pile from the top down.
+    pub fn lists(&self) -> [Vec<u32>; 2] {
+        [self.row.iter().copied().collect(), self.pile.iter().rev().map(|entry| entry.link).collect()]
+    }
+
+    /// Whether a store of so many bytes from an address on reaches a listed area.
+    pub fn reached(&self, address: u32, size: usize) -> bool {
+        [address, address + size as u32 - 1].iter().any(|byte| self.listed.contains(&(byte & !63)))
     }
 
     /// A step's saves, each with the registers that it finds, in their order; LCX tells whether an FCD entry is due.
@@ -135,15 +139,13 @@ impl Book {
     }
 
     /// The lists in memory against the row and the pile.
-    pub fn compare(&self, core: &Core, base: u32, window: &[u8]) -> Result<(), String> {
-        let free = met(base, window, core.fcx);
-        if free.as_deref() != Some(self.row.iter().copied().collect::<Vec<_>>().as_slice()) {
-            return Err(format!("the free list is {free:X?}, the row {:X?}", self.row));
-        }
-        let used = met(base, window, core.pcxi);
-        let pile: Vec<u32> = self.pile.iter().rev().map(|e| e.link).collect();
-        if used.as_deref() != Some(pile.as_slice()) {
-            return Err(format!("the used list is {used:X?}, the pile {pile:X?}"));
+    pub fn compare(&self, core: &Core, windows: &Windows<Vec<u8>>) -> Result<(), String> {
+        let [row, pile] = self.lists();
+        for (name, head, expected) in [("free", core.fcx, row), ("used", core.pcxi, pile)] {
+            let links = met(windows, head);
+            if links.as_ref() != Some(&expected) {
+                return Err(format!("the {name} list is {links:X?}, the book's {expected:X?}"));
+            }
         }
         Ok(())
     }

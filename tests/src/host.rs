@@ -1,12 +1,16 @@
-//! The host library: its three functions on slices.
+//! The host library: its four functions, on slices.
 
 extern "C" {
+    fn deqbaryn_version() -> u32;
     fn deqbaryn_start(
         core: *const u8,
         core_len: usize,
         base: u32,
         window: *const u8,
         window_len: usize,
+        second_base: u32,
+        second: *const u8,
+        second_len: usize,
         image: *const u8,
         image_len: usize,
     ) -> u64;
@@ -16,6 +20,9 @@ extern "C" {
         base: u32,
         window: *mut u8,
         window_len: usize,
+        second_base: u32,
+        second: *mut u8,
+        second_len: usize,
         image: *const u8,
         image_len: usize,
     ) -> u64;
@@ -25,19 +32,37 @@ extern "C" {
         base: u32,
         window: *mut u8,
         window_len: usize,
+        second_base: u32,
+        second: *mut u8,
+        second_len: usize,
         image: *const u8,
         image_len: usize,
         n: u32,
     ) -> u64;
 }
 
-pub fn start(core: &[u8], base: u32, window: &[u8], image: &[u8]) -> u64 {
+pub fn version() -> u32 {
+    unsafe { deqbaryn_version() }
+}
+
+pub fn start(core: &[u8], base: u32, window: &[u8], second_base: u32, second: &[u8], image: &[u8]) -> u64 {
     unsafe {
-        deqbaryn_start(core.as_ptr(), core.len(), base, window.as_ptr(), window.len(), image.as_ptr(), image.len())
+        deqbaryn_start(
+            core.as_ptr(),
+            core.len(),
+            base,
+            window.as_ptr(),
+            window.len(),
+            second_base,
+            second.as_ptr(),
+            second.len(),
+            image.as_ptr(),
+            image.len(),
+        )
     }
 }
 
-pub fn step(core: &mut [u8], base: u32, window: &mut [u8], image: &[u8]) -> u64 {
+pub fn step(core: &mut [u8], base: u32, window: &mut [u8], second_base: u32, second: &mut [u8], image: &[u8]) -> u64 {
     unsafe {
         deqbaryn_step(
             core.as_mut_ptr(),
@@ -45,13 +70,24 @@ pub fn step(core: &mut [u8], base: u32, window: &mut [u8], image: &[u8]) -> u64 
             base,
             window.as_mut_ptr(),
             window.len(),
+            second_base,
+            second.as_mut_ptr(),
+            second.len(),
             image.as_ptr(),
             image.len(),
         )
     }
 }
 
-pub fn run(core: &mut [u8], base: u32, window: &mut [u8], image: &[u8], n: u32) -> u64 {
+pub fn run(
+    core: &mut [u8],
+    base: u32,
+    window: &mut [u8],
+    second_base: u32,
+    second: &mut [u8],
+    image: &[u8],
+    n: u32,
+) -> u64 {
     unsafe {
         deqbaryn_run(
             core.as_mut_ptr(),
@@ -59,6 +95,9 @@ pub fn run(core: &mut [u8], base: u32, window: &mut [u8], image: &[u8], n: u32) 
             base,
             window.as_mut_ptr(),
             window.len(),
+            second_base,
+            second.as_mut_ptr(),
+            second.len(),
             image.as_ptr(),
             image.len(),
             n,

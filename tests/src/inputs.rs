@@ -1,15 +1,38 @@
 //! The checks of the inputs, as the proved library answers them.
 
 use crate::model::checks::Refusal;
+use crate::model::windows::Windows;
 
 extern "C" {
     fn deqbaryn_check_image(image: *const u8, len: usize) -> u64;
-    fn deqbaryn_check_lists(base: u32, window: *const u8, len: usize, fcx: u32, pcxi: u32) -> u64;
-    fn deqbaryn_try_step(base: u32, window: *const u8, len: usize, image: *const u8, image_len: usize, pc: u32) -> u64;
+    fn deqbaryn_check_lists(
+        base: u32,
+        window: *const u8,
+        len: usize,
+        base2: u32,
+        window2: *const u8,
+        len2: usize,
+        fcx: u32,
+        pcxi: u32,
+    ) -> u64;
+    fn deqbaryn_try_step(
+        base: u32,
+        window: *const u8,
+        len: usize,
+        base2: u32,
+        window2: *const u8,
+        len2: usize,
+        image: *const u8,
+        image_len: usize,
+        pc: u32,
+    ) -> u64;
     fn deqbaryn_try_start(
         base: u32,
         window: *const u8,
         len: usize,
+        base2: u32,
+        window2: *const u8,
+        len2: usize,
         image: *const u8,
         image_len: usize,
         pc: u32,
@@ -30,17 +53,62 @@ pub fn check_image(image: &[u8]) -> Result<(), Refusal> {
     verdict(unsafe { deqbaryn_check_image(image.as_ptr(), image.len()) })
 }
 
-pub fn check_lists(base: u32, window: &[u8], fcx: u32, pcxi: u32) -> Result<(), Refusal> {
-    verdict(unsafe { deqbaryn_check_lists(base, window.as_ptr(), window.len(), fcx, pcxi) })
-}
-
-pub fn try_step(base: u32, window: &[u8], image: &[u8], pc: u32) -> Result<(), Refusal> {
-    verdict(unsafe { deqbaryn_try_step(base, window.as_ptr(), window.len(), image.as_ptr(), image.len(), pc) })
-}
-
-pub fn try_start(base: u32, window: &[u8], image: &[u8], pc: u32, fcx: u32, pcxi: u32) -> Result<(), Refusal> {
+/// Rules 1 and 13, then 5 and 6.
+pub fn check_lists(Windows { first, second }: &Windows<impl AsRef<[u8]>>, fcx: u32, pcxi: u32) -> Result<(), Refusal> {
+    let (window, window2) = (first.bytes.as_ref(), second.bytes.as_ref());
     verdict(unsafe {
-        deqbaryn_try_start(base, window.as_ptr(), window.len(), image.as_ptr(), image.len(), pc, fcx, pcxi)
+        deqbaryn_check_lists(
+            first.base,
+            window.as_ptr(),
+            window.len(),
+            second.base,
+            window2.as_ptr(),
+            window2.len(),
+            fcx,
+            pcxi,
+        )
+    })
+}
+
+pub fn try_step(Windows { first, second }: &Windows<impl AsRef<[u8]>>, image: &[u8], pc: u32) -> Result<(), Refusal> {
+    let (window, window2) = (first.bytes.as_ref(), second.bytes.as_ref());
+    verdict(unsafe {
+        deqbaryn_try_step(
+            first.base,
+            window.as_ptr(),
+            window.len(),
+            second.base,
+            window2.as_ptr(),
+            window2.len(),
+            image.as_ptr(),
+            image.len(),
+            pc,
+        )
+    })
+}
+
+pub fn try_start(
+    Windows { first, second }: &Windows<impl AsRef<[u8]>>,
+    image: &[u8],
+    pc: u32,
+    fcx: u32,
+    pcxi: u32,
+) -> Result<(), Refusal> {
+    let (window, window2) = (first.bytes.as_ref(), second.bytes.as_ref());
+    verdict(unsafe {
+        deqbaryn_try_start(
+            first.base,
+            window.as_ptr(),
+            window.len(),
+            second.base,
+            window2.as_ptr(),
+            window2.len(),
+            image.as_ptr(),
+            image.len(),
+            pc,
+            fcx,
+            pcxi,
+        )
     })
 }
 

@@ -1,9 +1,10 @@
 //! A readable account of two sides that differ.
 
 use crate::model::checks;
-use crate::model::core::NAMES;
+use crate::model::core::{NAMES, RECORD};
 use crate::model::image::{record_at, word};
 use crate::model::operations;
+use crate::model::windows::{Window, Windows};
 use std::fmt::Write;
 
 /// The name of a word of the core's record.
@@ -43,21 +44,34 @@ fn words(text: &mut String, proved: &[u8], model: &[u8], name: impl Fn(usize) ->
     }
 }
 
-/// A side after a call: answer, core's record, window.
-pub type Side<'a> = (u64, &'a [u8], &'a [u8]);
+/// A side after a call: answer, core's record, windows.
+pub type Side<'a> = (u64, &'a [u8], &'a Windows<Vec<u8>>);
 
-pub fn difference(base: u32, proved: Side, model: Side) -> String {
+pub fn difference(proved: Side, model: Side) -> String {
     let mut text = String::new();
     if proved.0 != model.0 {
         writeln!(text, "  answer: proved {}, model {}", describe(proved.0), describe(model.0)).unwrap();
     }
     words(&mut text, proved.1, model.1, name);
-    words(&mut text, proved.2, model.2, |k| format!("[{:08X}]", base.wrapping_add(4 * k as u32)));
+    let mut window = |p: &Window<Vec<u8>>, m: &Window<Vec<u8>>| {
+        words(&mut text, &p.bytes, &m.bytes, |k| format!("[{:08X}]", p.base.wrapping_add(4 * k as u32)));
+    };
+    window(&proved.2.first, &model.2.first);
+    window(&proved.2.second, &model.2.second);
     text
+}
+
+/// The windows' bases and lengths.
+pub fn extents(Windows { first, second }: &Windows<Vec<u8>>) -> String {
+    let [first, second] = [first, second].map(|w| format!("{} bytes at {:08X}", w.bytes.len(), w.base));
+    format!("  windows: {first}; {second}")
 }
 
 /// The record that a core is at, and the registers that decide most of a step.
 pub fn place(core: &[u8], image: &[u8]) -> String {
+    if core.len() < RECORD {
+        return format!("  a record of {} bytes", core.len());
+    }
     let at = |name: &str| word(core, 4 * (32 + NAMES.iter().position(|n| *n == name).unwrap()));
     let mut text = String::from(" ");
     for name in NAMES {

@@ -1,12 +1,18 @@
 //! The watcher of a series: it counts what is met, and keeps the book as long as the conditions of demand 3 hold.
 
 use crate::book::{Book, Registers};
+use crate::coverage::extents::Extents;
+use crate::coverage::windows::Called;
 use crate::coverage::Coverage;
 use crate::model::code::Instruction;
 use crate::model::core::Core;
-use crate::model::event::{answer::PERMITS, Event, Stop};
+use crate::model::event::answer::{ACCEPTED, PERMITS};
+use crate::model::event::{Event, Stop, DATA};
+use crate::model::fields::LINK;
 use crate::model::observer::{Half, Observer};
+use crate::model::operations::Operation::*;
 use crate::model::protection::Access;
+use crate::model::windows::{address_of, Windows};
 
 /// What came up while a book was kept.
 #[derive(Debug, Default)]
@@ -19,6 +25,9 @@ pub struct Kept {
     pub fcd_entries: u64,
     pub stops: u64,
     pub refused: u64,
+    /// Saves and returns right after one in the other window.
+    pub saves_after_other: u64,
+    pub returns_after_other: u64,
 }
 
 #[derive(Default)]
@@ -28,15 +37,30 @@ pub struct Watcher {
     pub kept: Kept,
     /// The first thing at which the machine and the book differ.
     pub fault: Option<String>,
+    extents: Extents,
+    /// The windows of the series' latest save and return.
+    saved_in: Option<usize>,
+    returned_from: Option<usize>,
     /// Of the latest step: what it began with, and what it fetched.
     requests: [u32; 16],
     lcx: u32,
     psw: u32,
     instruction: Option<Instruction>,
+    /// The latest step's load or store.
+    data: Option<(Access, u32)>,
     /// The latest step's accesses, each with the numbers of the ranges that permit it.
     permitted: Vec<(Access, Vec<usize>)>,
     saves: Vec<(Half, Registers)>,
     entries: Vec<Event>,
+}
+
+/// How many bytes a load or store has.
+fn size(instruction: Instruction) -> u32 {
+    match instruction.operation {
+        LdB | LdBu | StB => 1,
+        LdH | LdHu | StH => 2,
+        _ => 4,
+    }
 }
 
 impl Watcher {
@@ -57,13 +81,53 @@ impl Watcher {
         }
     }
 
-    /// The answer and the lists that a call left.
-    pub fn called(&mut self, answer: u64, core: &Core, base: u32, window: &[u8]) {
+    /// A series begins, with these windows.
+    pub fn begins_series(&mut self, windows: &Windows<Vec<u8>>) {
+        self.book = None;
+        self.extents = Extents::of(windows);
+        (self.saved_in, self.returned_from) = (None, None);
+    }
+
+    /// The answer of a start; the book begins where it is accepted.
+    pub fn started(&mut self, answer: u64, core: &Core, windows: &Windows<Vec<u8>>) {
         self.coverage.answer(answer);
+        self.coverage.windows.answer(Called::Start, &self.extents, answer);
+        if answer == ACCEPTED && self.book.is_none() {
+            let book = Book::begin(core, windows);
+            self.coverage.windows.lists(&self.extents, book.lists());
+            self.book = Some(book);
+        }
+    }
+
+    /// The answer and the lists that a step or a run left.
+    pub fn called(&mut self, called: Called, answer: u64, core: &Core, windows: &Windows<Vec<u8>>) {
+        self.coverage.answer(answer);
+        self.coverage.windows.answer(called, &self.extents, answer);
         if let Some(book) = &self.book {
-            let result = book.compare(core, base, window);
+            let result = book.compare(core, windows);
             self.kept.refused += (answer as u8 == 4) as u64;
             self.note(result);
+        }
+    }
+
+    /// The latest step's load or store.
+    fn accessed(&mut self, outcome: Result<Event, Stop>) {
+        let (Some(instruction), Some((access, address))) = (self.instruction, self.data) else {
+            return;
+        };
+        if outcome == Ok(Event::Instruction) {
+            self.coverage.windows.accessed(&self.extents, access, address, size(instruction));
+        } else if self.entries.first() == Some(&Event::Trap(DATA)) {
+            self.coverage.windows.outside(&self.extents, access, address, size(instruction));
+        }
+    }
+
+    /// The latest step stopped at an area in neither window. Of a return whose entry could stop there too nothing is said.
+    fn stopped_outside(&mut self, core: &Core) {
+        let returns = self.instruction.is_some_and(|i| matches!(i.operation, Ret | Rfe | Rslcx));
+        let of_a_return = returns && self.extents.has_area(core.fcx) && !self.extents.has_area(core.pcxi);
+        if of_a_return || !returns {
+            self.coverage.windows.stopped(&self.extents, of_a_return);
         }
     }
 
@@ -90,12 +154,16 @@ impl Observer for &mut Watcher {
         self.lcx = core.lcx;
         self.psw = core.psw;
         self.instruction = None;
+        self.data = None;
         self.permitted.clear();
         self.entries.clear();
         self.saves.clear();
     }
 
     fn permitted(&mut self, core: &Core, access: Access, address: u32, by: Option<usize>) {
+        if !matches!(access, Access::Fetch) {
+            self.data = Some((access, address));
+        }
         if by.is_some() {
             self.permitted.push((access, core.permitting(access, address)));
         }
@@ -107,6 +175,10 @@ impl Observer for &mut Watcher {
     }
 
     fn saves(&mut self, half: Half, core: &Core) {
+        let window = self.extents.holder(address_of(core.fcx & LINK));
+        let before = self.saved_in.replace(window);
+        self.coverage.windows.saved(window, before, !self.saves.is_empty());
+        self.kept.saves_after_other += (self.book.is_some() && before == Some(1 - window)) as u64;
         self.saves.push((half, Registers::of(core, half)));
     }
 
@@ -118,6 +190,11 @@ impl Observer for &mut Watcher {
     }
 
     fn returned(&mut self, half: Half, core: &Core) {
+        // the area is now the first of the free list
+        let window = self.extents.holder(address_of(core.fcx));
+        let before = self.returned_from.replace(window);
+        self.coverage.windows.returned(window, before);
+        self.kept.returns_after_other += (self.book.is_some() && before == Some(1 - window)) as u64;
         if let Some(book) = &mut self.book {
             let before = book.from_start;
             let result = book.comes_off(half, core);
@@ -127,8 +204,8 @@ impl Observer for &mut Watcher {
         }
     }
 
-    fn stored(&mut self, offset: usize, size: usize) {
-        if self.book.as_ref().is_some_and(|book| book.reached(offset, size)) {
+    fn stored(&mut self, address: u32, size: usize) {
+        if self.book.as_ref().is_some_and(|book| book.reached(address, size)) {
             self.book = None;
         }
     }
@@ -142,6 +219,10 @@ impl Observer for &mut Watcher {
         self.coverage.entries(&self.entries);
         if let (Some(instruction), Ok(Event::Instruction)) = (self.instruction, outcome) {
             self.coverage.done(instruction, self.psw, core);
+        }
+        self.accessed(outcome);
+        if outcome == Err(Stop::Outside) {
+            self.stopped_outside(core);
         }
         self.enter_in_book(outcome);
     }

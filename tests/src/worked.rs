@@ -1,30 +1,27 @@
-//! A small machine for worked cases: the pool walk's state and window, held by the proved machine and by the second model.
+//! A small machine for worked cases: the pool walk's state and windows, held by the proved machine and by the second model.
 
 use crate::host;
-use crate::model::core::{Core, RECORD};
+use crate::model::core::Core;
 use crate::model::event::answer;
-use crate::model::image::{build, word, Body, Record};
+use crate::model::image::{build, Body, Record};
 use crate::model::machine;
 use crate::model::operations::Operation;
+use crate::model::windows::{link_of, Windows};
 use crate::report::difference;
 
 pub const BASE: u32 = 0xD000_0000;
 pub const LOAD: u32 = 0x8000_0000;
 pub const BTV: u32 = 0x8001_0000;
 
-/// The areas' first words, linked ascending.
-fn linked(areas: usize) -> Vec<u8> {
-    let mut window = vec![0; 64 * areas];
-    for k in 1..areas {
-        window[64 * k - 64..64 * k - 60].copy_from_slice(&(0xD_0000 + k as u32).to_le_bytes());
-    }
-    window
+/// So many areas from an address on.
+pub fn areas(base: u32, count: u32) -> Vec<u32> {
+    (0..count).map(|k| base + 64 * k).collect()
 }
 
 #[derive(Clone)]
 pub struct Worked {
     pub core: Core,
-    pub window: Vec<u8>,
+    pub windows: Windows<Vec<u8>>,
     pub image: Vec<u8>,
 }
 
@@ -38,10 +35,13 @@ pub fn plain(op: Operation) -> Record {
 }
 
 impl Worked {
+    /// One window of 64 areas, all free and linked ascending, and a second one of length 0.
     pub fn new(records: &[Record]) -> Worked {
-        let core = Core { pc: LOAD, psw: 0xB80, btv: BTV, fcx: 0xD_0000, ..Core::default() };
+        let core = Core { pc: LOAD, psw: 0xB80, btv: BTV, ..Core::default() };
         let image = build(&[Body { load: LOAD, records: records.to_vec() }]);
-        Worked { core, window: linked(64), image }
+        let mut w = Worked { core, windows: Windows::one(BASE, vec![0; 4096]), image };
+        w.core.fcx = w.chain(&areas(BASE, 64));
+        w
     }
 
     /// The same with another number in every register, and PSW, ICR and PCXI with every field set.
@@ -57,40 +57,67 @@ impl Worked {
         w
     }
 
+    /// The same with two other windows, of so many areas, their bytes 0 and both lists empty.
+    pub fn lent(mut self, base: u32, count: usize, second_base: u32, second_count: usize) -> Worked {
+        self.windows = Windows::new(base, vec![0; 64 * count], second_base, vec![0; 64 * second_count]);
+        (self.core.fcx, self.core.pcxi) = (0, 0);
+        self
+    }
+
+    /// Links areas in this order, the last one to none: the link of the first.
+    pub fn chain(&mut self, areas: &[u32]) -> u32 {
+        let mut link = 0;
+        for area in areas.iter().rev() {
+            self.put(*area, link);
+            link = link_of(*area);
+        }
+        link
+    }
+
     fn both(
         &mut self,
-        proved: impl Fn(&mut [u8], &mut [u8], &[u8]) -> u64,
-        model: impl Fn(&mut [u8], &mut [u8], &[u8]) -> u64,
+        proved: impl Fn(&mut Windows<Vec<u8>>, &mut [u8], &[u8]) -> u64,
+        model: impl Fn(&mut Windows<Vec<u8>>, &mut [u8], &[u8]) -> u64,
     ) -> u64 {
         let mut record = self.core.to_record();
-        let (mut record_p, mut window_p) = (record, self.window.clone());
-        let p = proved(&mut record_p, &mut window_p, &self.image);
-        let m = model(&mut record, &mut self.window, &self.image);
-        let text = difference(BASE, (p, &record_p, &window_p), (m, &record, &self.window));
-        assert!(text.is_empty(), "the two sides differ\n{text}");
+        let (mut record_p, mut windows_p) = (record, self.windows.clone());
+        let p = proved(&mut windows_p, &mut record_p, &self.image);
+        let m = model(&mut self.windows, &mut record, &self.image);
+        if p != m || record_p != record || windows_p != self.windows {
+            panic!("the two sides differ\n{}", difference((p, &record_p, &windows_p), (m, &record, &self.windows)));
+        }
         self.core = Core::from_record(&record);
         m
     }
 
     /// A step on both sides, which must agree: the answer.
     pub fn step(&mut self) -> u64 {
-        self.both(|c, w, i| host::step(c, BASE, w, i), |c, w, i| machine::step(c, BASE, w, i))
+        self.both(|w, c, i| w.step(host::step, c, i), |w, c, i| w.step(machine::step, c, i))
     }
 
     /// A run on both sides.
     pub fn run(&mut self, n: u32) -> u64 {
-        self.both(|c, w, i| host::run(c, BASE, w, i, n), |c, w, i| machine::run(c, BASE, w, i, n))
+        self.both(|w, c, i| w.run(host::run, c, i, n), |w, c, i| w.run(machine::run, c, i, n))
     }
 
-    /// A start on both sides.
+    /// A start on both sides, which leaves everything as it was.
     pub fn start(&self) -> u64 {
-        let record: [u8; RECORD] = self.core.to_record();
-        let m = machine::start(&record, BASE, &self.window, &self.image);
-        assert_eq!(host::start(&record, BASE, &self.window, &self.image), m);
-        m
+        let start = |by| move |w: &mut Windows<Vec<u8>>, c: &mut [u8], i: &[u8]| w.start(by, c, i);
+        let mut w = self.clone();
+        let answer = w.both(start(host::start), start(machine::start));
+        assert!(w.core == self.core && w.windows == self.windows, "a start changed something");
+        answer
     }
 
-    /// The same without its permitting ranges.
+    /// A start, a step and runs, all of which must be refused with place 0 and leave everything as it was.
+    pub fn refused(&self, number: u8) {
+        let mut w = self.clone();
+        let answers = [w.start(), w.step(), w.run(0), w.run(1), w.run(1000)];
+        assert_eq!(answers, [4 | (number as u64) << 8; 5], "another answer");
+        assert!(w.core == self.core && w.windows == self.windows, "a refusal changed something");
+    }
+
+    /// A step's answer without its permitting ranges.
     fn event(&mut self) -> u64 {
         self.step() & !answer::PERMITS
     }
@@ -119,7 +146,7 @@ impl Worked {
     pub fn stopped(&mut self, number: u8) {
         let before = self.clone();
         assert_eq!(self.event(), 3 | (number as u64) << 8, "another event");
-        assert!(self.core == before.core && self.window == before.window, "a stop changed something");
+        assert!(self.core == before.core && self.windows == before.windows, "a stop changed something");
     }
 
     /// The sixteen words of an area.
@@ -136,12 +163,20 @@ impl Worked {
         words
     }
 
+    /// What a lower save of the instruction at PC finds.
+    pub fn lower(&self) -> [u32; 16] {
+        let mut words = [self.core.pcxi; 16];
+        words[1] = self.core.pc + 4;
+        words[2..8].copy_from_slice(&self.core.a[2..8]);
+        words[8..].copy_from_slice(&self.core.d[..8]);
+        words
+    }
+
     pub fn word(&self, address: u32) -> u32 {
-        word(&self.window, (address - BASE) as usize)
+        u32::from_le_bytes(*self.windows.part(address).expect("in a window"))
     }
 
     pub fn put(&mut self, address: u32, word: u32) {
-        let at = (address - BASE) as usize;
-        self.window[at..at + 4].copy_from_slice(&word.to_le_bytes());
+        *self.windows.part_mut(address).expect("in a window") = word.to_le_bytes();
     }
 }

@@ -4,11 +4,15 @@ use crate::generate::draw::Draw;
 use crate::model::core::{Core, Range};
 use crate::model::image::Record;
 use crate::model::operations::Operation::{self, *};
-use crate::worked::{record, Worked, BASE, LOAD};
+use crate::model::windows::Window;
+use crate::worked::{areas, record, Worked, BASE, LOAD};
 
 const INTEGERS: [Operation; 20] =
     [Add, Sub, Rsub, Addx, Addc, Subc, Adds, SubsU, Mul, And, Xor, Andn, Sh, Sha, Min, MaxU, Absdif, Lt, Clz, Mov];
 const ACCESSES: [Operation; 10] = [LdB, LdBu, LdH, LdHu, LdW, LdA, StB, StH, StW, StA];
+
+/// Where the second window lies, in the rows that have one.
+const SECOND: u32 = 0xC000_0000;
 
 /// Data is reached through A2, which points past the areas that calls use.
 fn worked(records: &[Record]) -> Worked {
@@ -66,6 +70,14 @@ pub fn calls() -> Worked {
         record(Rslcx, 0, 0, 0, 0),
         record(Ret, 0, 0, 0, 0),
     ])
+}
+
+/// A workload with a second window, which has its data and its areas.
+pub fn in_second_window(mut w: Worked) -> Worked {
+    w.windows.second = Window { base: SECOND, bytes: vec![0; 4096] };
+    w.core.a[2] = SECOND + 2048;
+    w.core.fcx = w.chain(&areas(SECOND, 32));
+    w
 }
 
 /// Integer operations, accesses, short jumps and calls of a routine at the end.

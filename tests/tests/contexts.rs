@@ -10,15 +10,6 @@ fn one(op: Operation, imm: u32) -> Worked {
     Worked::numbered(&[record(op, 0, 0, 0, imm)])
 }
 
-/// What a lower save of the first instruction finds.
-fn lower(w: &Worked) -> [u32; 16] {
-    let mut words = [w.core.pcxi; 16];
-    words[1] = LOAD + 4;
-    words[2..8].copy_from_slice(&w.core.a[2..8]);
-    words[8..].copy_from_slice(&w.core.d[..8]);
-    words
-}
-
 #[test]
 fn a_call_saves_what_was_before() {
     let mut w = one(Call, 0x101);
@@ -48,13 +39,13 @@ fn a_call_without_cde_counts_nothing_and_sets_it() {
 #[test]
 fn lower_saves_hold_the_next_address() {
     let mut w = one(Svlcx, 0);
-    let before = lower(&w);
+    let before = w.lower();
     w.done();
     assert_eq!(w.area(FREE_0), before);
     assert_eq!((w.core.pcxi, w.core.pc, w.core.icr), (0x078D_0000, LOAD + 4, 0x107));
     let mut w = one(Bisr, 0xABCD_EF09);
     w.core.icr = 0xFEDC_0007;
-    let before = lower(&w);
+    let before = w.lower();
     w.done();
     assert_eq!(w.area(FREE_0), before);
     assert_eq!((w.core.pcxi, w.core.icr), (0x070D_0000, 0xFEDC_0109));

@@ -1,18 +1,22 @@
 //! The host library against the second model, byte by byte, over series made from seeds; the book of demand 3 beside them.
 //! DEQBARYN_STEPS is the number of steps, DEQBARYN_SEED the first seed: a failing series is the first of its own seed.
 
-use deqbaryn_tests::book::Book;
+use deqbaryn_tests::coverage::windows::Called;
 use deqbaryn_tests::generate::{series, Change, Kind, Series};
 use deqbaryn_tests::model::core::{Core, RECORD};
 use deqbaryn_tests::model::machine;
-use deqbaryn_tests::report::{difference, place};
+use deqbaryn_tests::model::windows::Windows;
+use deqbaryn_tests::report::{difference, extents, place};
 use deqbaryn_tests::watch::Watcher;
 use deqbaryn_tests::{host, model::event::answer};
 
 const LEAST_SERIES: u64 = 500;
 const LEAST_RETURNS: u64 = 2_000;
-/// Of each: returns of entries read at the start, interrupts, FCD entries, stops, refused calls.
+/// Of each: returns of entries read at the start, interrupts, FCD entries, stops, refused calls, saves and returns right after
+/// one in the other window.
 const LEAST_OTHERS: u64 = 100;
+/// Of each layout, refusal, way between the windows and access at their ends.
+const LEAST_OF_WINDOWS: u64 = 100;
 /// Of each: reads, writes and fetches that several ranges permit, the set's first among them and not.
 const LEAST_OVERLAPS: u64 = 1_000;
 /// Of each saturating operation: results that show AV, and SAV, to be taken before saturation.
@@ -22,39 +26,39 @@ fn number(name: &str, default: u64) -> u64 {
     std::env::var(name).map_or(default, |text| text.parse().unwrap_or_else(|_| panic!("{name} is no number")))
 }
 
-/// The core and the window of one side.
+/// The core and the windows of one side.
 #[derive(Clone, PartialEq)]
 struct Side {
     core: Vec<u8>,
-    window: Vec<u8>,
+    windows: Windows<Vec<u8>>,
 }
 
-fn proved_call(side: &mut Side, base: u32, image: &[u8], kind: Kind) -> u64 {
+fn proved_call(side: &mut Side, image: &[u8], kind: Kind) -> u64 {
     match kind {
-        Kind::Step => host::step(&mut side.core, base, &mut side.window, image),
-        Kind::Run(n) => host::run(&mut side.core, base, &mut side.window, image, n),
+        Kind::Step => side.windows.step(host::step, &mut side.core, image),
+        Kind::Run(n) => side.windows.run(host::run, &mut side.core, image, n),
     }
 }
 
-fn model_call(side: &mut Side, base: u32, image: &[u8], kind: Kind, watcher: &mut Watcher) -> u64 {
+fn model_call(side: &mut Side, image: &[u8], kind: Kind, watcher: &mut Watcher) -> u64 {
     match kind {
-        Kind::Step => machine::step_observed(&mut side.core, base, &mut side.window, image, watcher),
-        Kind::Run(n) => machine::run_observed(&mut side.core, base, &mut side.window, image, n, watcher),
+        Kind::Step => machine::step_observed(&mut side.core, side.windows.lent(), image, watcher),
+        Kind::Run(n) => machine::run_observed(&mut side.core, side.windows.lent(), image, n, watcher),
     }
 }
 
 /// The shortest run that differs from the same state on, with the state before its last step.
-fn narrowed(before: &Side, base: u32, image: &[u8], most: u32) -> Option<String> {
+fn narrowed(before: &Side, image: &[u8], most: u32) -> Option<String> {
     let after = |n: u32| {
         let (mut proved, mut model) = (before.clone(), before.clone());
-        let p = host::run(&mut proved.core, base, &mut proved.window, image, n);
-        let m = machine::run(&mut model.core, base, &mut model.window, image, n);
+        let p = proved.windows.run(host::run, &mut proved.core, image, n);
+        let m = model.windows.run(machine::run, &mut model.core, image, n);
         (p, proved, m, model)
     };
     (0..=most).map(|n| (n, after(n))).find(|(_, (p, proved, m, model))| p != m || proved != model).map(
         |(n, (p, proved, m, model))| {
             let (_, last, ..) = after(n.saturating_sub(1));
-            let text = difference(base, (p, &proved.core, &proved.window), (m, &model.core, &model.window));
+            let text = difference((p, &proved.core, &proved.windows), (m, &model.core, &model.windows));
             format!("a run of {n} differs first; before its last step\n{}\n{text}", place(&last.core, image))
         },
     )
@@ -72,70 +76,76 @@ fn set(core: &mut [u8], change: Change) {
     }
 }
 
-/// The start of a series on both sides; the book begins where it is accepted.
+/// The start of a series on both sides, which leaves its windows as they were.
 fn start(seed: u64, series: &Series, watcher: &mut Watcher) {
-    for image in &series.images {
-        let proved = host::start(&series.core, series.base, &series.window, image);
-        let model = machine::start(&series.core, series.base, &series.window, image);
+    let Series { windows, core, images, .. } = series;
+    let before = windows.clone();
+    for image in images {
+        let proved = windows.start(host::start, core, image);
+        let model = windows.start(machine::start, core, image);
         assert!(proved == model, "DEQBARYN_SEED={seed}: start, proved {proved:016X}, model {model:016X}");
-        watcher.coverage.answer(model);
-        if model == answer::ACCEPTED {
-            let core = Core::from_record(&series.core);
-            watcher.book.get_or_insert_with(|| Book::begin(&core, series.base, &series.window));
-        }
+        watcher.started(model, &Core::from_record(core), windows);
     }
     for length in [0, RECORD - 1] {
-        let core = &series.core[..length];
-        assert_eq!(host::start(core, series.base, &series.window, &series.images[0]), answer::WRONG_LENGTH);
+        assert_eq!(windows.start(host::start, &core[..length], &images[0]), answer::WRONG_LENGTH);
     }
+    assert!(*windows == before, "DEQBARYN_SEED={seed}: a start changed a window");
+}
+
+/// A call on both sides, which must agree in every byte: the answer. One that is refused leaves everything as it was.
+fn call_both(name: &dyn Fn() -> String, side: &mut Side, image: &[u8], kind: Kind, watcher: &mut Watcher) -> u64 {
+    let (before, mut proved) = (side.clone(), side.clone());
+    let p = proved_call(&mut proved, image, kind);
+    let m = model_call(side, image, kind, watcher);
+    if p != m || proved != *side {
+        let lent = extents(&before.windows);
+        let place = place(&before.core, image);
+        let text = difference((p, &proved.core, &proved.windows), (m, &side.core, &side.windows));
+        let narrowed = match kind {
+            Kind::Run(n) => narrowed(&before, image, n).unwrap_or_default(),
+            Kind::Step => String::new(),
+        };
+        panic!("{}\n{lent}\nbefore\n{place}\n{text}{narrowed}", name());
+    }
+    let refused = matches!(m as u8, 4 | 5);
+    assert!(!refused || *side == before, "{}: {m:016X}, and something changed", name());
+    m
 }
 
 /// One series, compared after each call. A stop is tried again twice, since only the host's requests could end it.
 fn walk(seed: u64, watcher: &mut Watcher) {
     let series = series(seed);
-    watcher.book = None;
+    watcher.begins_series(&series.windows);
     start(seed, &series, watcher);
-    let base = series.base;
-    let mut side = Side { core: series.core.to_vec(), window: series.window.clone() };
+    let mut side = Side { core: series.core.to_vec(), windows: series.windows };
     let mut stops = 0;
     for (k, call) in series.calls.iter().enumerate() {
         for change in &call.changes {
             set(&mut side.core, *change);
         }
-        let image = &series.images[call.image];
+        let name = || format!("DEQBARYN_SEED={seed}: call {k}, {:?} of image {}", call.kind, call.image);
         let whole = side.core.clone();
         side.core.resize(call.length, 0xA5);
-        let (before, mut proved) = (side.clone(), side.clone());
-        let p = proved_call(&mut proved, base, image, call.kind);
-        let m = model_call(&mut side, base, image, call.kind, watcher);
-        if p != m || proved != side {
-            let text = difference(base, (p, &proved.core, &proved.window), (m, &side.core, &side.window));
-            let narrowed = match call.kind {
-                Kind::Run(n) if call.length == RECORD => narrowed(&before, base, image, n),
-                _ => None,
-            };
-            panic!(
-                "DEQBARYN_SEED={seed}: call {k}, {:?} of image {}\nbefore\n{}\n{text}{}",
-                call.kind,
-                call.image,
-                place(&whole, image),
-                narrowed.unwrap_or_default()
-            );
-        }
-        match call.kind {
-            Kind::Run(n) => watcher.coverage.run(n, m),
-            Kind::Step => watcher.told(m),
-        }
+        let answer = call_both(&name, &mut side, &series.images[call.image], call.kind, watcher);
         if call.length != RECORD {
-            assert!(side == before, "DEQBARYN_SEED={seed}: call {k} changed a record of a wrong length");
             side.core = whole;
         }
+        let called = match call.kind {
+            Kind::Run(n) => {
+                watcher.coverage.run(n, answer);
+                Called::Run
+            }
+            Kind::Step => {
+                watcher.told(answer);
+                Called::Step
+            }
+        };
         let core = Core::from_record(side.core.as_slice().try_into().unwrap());
-        watcher.called(m, &core, base, &side.window);
+        watcher.called(called, answer, &core, &side.windows);
         if let Some(fault) = &watcher.fault {
-            panic!("DEQBARYN_SEED={seed}: call {k}, {:?}: the book differs: {fault}", call.kind);
+            panic!("{}: the book differs: {fault}", name());
         }
-        stops += (m as u8 == 3) as u32;
+        stops += (answer as u8 == 3) as u32;
         if stops == 3 {
             break;
         }
@@ -161,9 +171,12 @@ fn the_proved_machine_agrees_with_the_second_model() {
     assert!(overlaps >= LEAST_OVERLAPS, "{overlaps} accesses of a kind only met several ranges");
     let saturated = watcher.coverage.fewest_saturated();
     assert!(saturated >= LEAST_SATURATED, "{saturated} results only of an operation show where AV or SAV is taken");
+    let (what, count) = watcher.coverage.fewest_of_windows();
+    assert!(count >= LEAST_OF_WINDOWS, "{what} was met {count} times only");
     assert!(met >= LEAST_SERIES, "the conditions held in {met} series only");
     let kept = watcher.kept;
     assert!(kept.returns >= LEAST_RETURNS, "{} returns only were compared", kept.returns);
-    let others = [kept.returns_from_start, kept.interrupts, kept.fcd_entries, kept.stops, kept.refused];
-    assert!(others.iter().all(|n| *n >= LEAST_OTHERS), "{kept:?}");
+    let moved = [kept.returns_from_start, kept.saves_after_other, kept.returns_after_other];
+    let others = [kept.interrupts, kept.fcd_entries, kept.stops, kept.refused];
+    assert!(moved.iter().chain(&others).all(|n| *n >= LEAST_OTHERS), "{kept:?}");
 }

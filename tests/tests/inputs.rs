@@ -1,46 +1,33 @@
-//! Rules 1 to 6: each with a good input and the nearest bad ones, against the proved checks and the second model.
+//! Rules 1, 13 and 4, and the order of all: each with a good input and the nearest bad ones, against the proved checks and the
+//! second model.
 
 use deqbaryn_tests::inputs;
 use deqbaryn_tests::model::checks::{self, Refusal};
-use deqbaryn_tests::model::image::{build, record_at, Body, Record};
+use deqbaryn_tests::model::image::{build, Body};
+use deqbaryn_tests::model::windows::Windows;
+use deqbaryn_tests::rules::{body, linked, put, refused, small};
+use deqbaryn_tests::worked::BASE;
 
-const BASE: u32 = 0xD000_0000;
-
-fn refused(number: u32, place: u32) -> Result<(), Refusal> {
-    Err(Refusal { number, place })
-}
-
-fn body(load: u32, n: usize) -> Body {
-    Body { load, records: vec![Record::NOP; n] }
-}
-
-fn small() -> Vec<u8> {
-    build(&[body(0x8000_0000, 2)])
-}
-
-fn put(bytes: &mut [u8], at: usize, word: u32) {
-    bytes[at..at + 4].copy_from_slice(&word.to_le_bytes());
-}
+const PC: u32 = 0x8000_0000;
 
 /// Both answer alike, and as expected.
-fn step(base: u32, window: &[u8], image: &[u8], pc: u32, expected: Result<(), Refusal>) {
-    assert_eq!(inputs::try_step(base, window, image, pc), expected);
-    assert_eq!(checks::step(base, window, image, pc), expected);
+fn step(windows: &Windows<&[u8]>, image: &[u8], pc: u32, expected: Result<(), Refusal>) {
+    assert_eq!(inputs::try_step(windows, image, pc), expected);
+    assert_eq!(checks::step(windows, image, pc), expected);
+    // 5 and 6 come last
+    if expected.is_err() {
+        assert_eq!(inputs::try_start(windows, image, pc, 0xB_0000, 0), expected);
+    }
 }
 
-fn image(bytes: &[u8], expected: Result<(), Refusal>) {
-    assert_eq!(inputs::check_image(bytes), expected);
-    assert_eq!(checks::image(bytes), expected);
-}
-
-fn lists(base: u32, window: &[u8], fcx: u32, pcxi: u32, expected: Result<(), Refusal>) {
-    assert_eq!(inputs::check_lists(base, window, fcx, pcxi), expected);
-    assert_eq!(checks::lists(base, window, fcx, pcxi), expected);
-    assert_eq!(inputs::try_start(base, window, &small(), 0x8000_0000, fcx, pcxi), expected);
-}
-
+/// A window alone, and as the second one after a window in another segment.
 fn window_case(base: u32, len: usize, ok: bool) {
-    step(base, &vec![0; len], &small(), 0x8000_0000, if ok { Ok(()) } else { refused(1, 0) });
+    let bytes = vec![0; len];
+    let expected = if ok { Ok(()) } else { refused(1, 0) };
+    step(&Windows::one(base, &bytes), &small(), PC, expected);
+    let second = if len == 0 { Ok(()) } else { expected };
+    step(&Windows::new(0x7000_0000, &[0; 64], base, &bytes), &small(), PC, second);
+    step(&Windows::new(base, &bytes, 0x7000_0000, &[0; 64]), &small(), PC, expected);
 }
 
 #[test]
@@ -81,273 +68,99 @@ fn window_segments() {
     window_case(0xFFFF_FFC0, 64, false);
 }
 
+/// Ends of segments and of the windows that may be lent, and their neighbours.
+const BASES: [u32; 20] = [
+    0,
+    1,
+    64,
+    0x0FFF_FFC0,
+    0x1000_0000,
+    0xCFFF_FFC0,
+    0xD000_0000,
+    0xD000_0001,
+    0xD000_003F,
+    0xD000_0040,
+    0xD000_0080,
+    0xD000_FFC0,
+    0xD001_0000,
+    0xD001_0040,
+    0xDFFF_0000,
+    0xDFFF_FFC0,
+    0xE000_0000,
+    0xF000_0000,
+    0xFFFF_FFC0,
+    0xFFFF_FFFF,
+];
+const LENGTHS: [usize; 12] = [0, 1, 63, 64, 65, 128, 192, 65_472, 65_535, 65_536, 65_537, 65_600];
+
+/// Every base with every length.
+fn extents() -> impl Iterator<Item = (u32, usize)> {
+    BASES.into_iter().flat_map(|base| LENGTHS.map(|len| (base, len)))
+}
+
+/// Rule 1 in plain words: whole areas, 1 to 1,024 of them, all in one segment below E.
+fn sound((base, len): (u32, usize)) -> bool {
+    let (first, end) = (base as u64, base as u64 + len as u64);
+    first % 64 == 0
+        && end % 64 == 0
+        && first < end
+        && len <= 65_536
+        && first >> 28 == (end - 1) >> 28
+        && first >> 28 < 14
+}
+
+/// Rule 13 in plain words: the later of the first bytes is before the earlier of the ends.
+fn overlap(a: (u32, usize), b: (u32, usize)) -> bool {
+    let end = |(base, len): (u32, usize)| base as u64 + len as u64;
+    (a.0.max(b.0) as u64) < end(a).min(end(b))
+}
+
 #[test]
-fn rule_one_is_tried_before_the_others() {
-    step(BASE + 1, &[0; 64], &[], 1, refused(1, 0));
-    step(BASE, &[0; 64], &[], 1, refused(2, 0));
+fn every_pair_of_windows_at_borders() {
+    let bytes = vec![0; 65_600];
+    let mut met = [0; 3];
+    for first in extents() {
+        for second in extents() {
+            let windows = Windows::new(first.0, &bytes[..first.1], second.0, &bytes[..second.1]);
+            let (kind, expected) = match second.1 {
+                _ if !sound(first) => (1, refused(1, 0)),
+                0 => (0, Ok(())),
+                _ if !sound(second) => (1, refused(1, 0)),
+                _ if overlap(first, second) => (2, refused(13, 0)),
+                _ => (0, Ok(())),
+            };
+            met[kind] += 1;
+            assert_eq!(checks::windows(&windows), expected, "{first:X?} {second:X?}");
+            step(&windows, &small(), PC, expected);
+        }
+    }
+    println!("accepted, refused with 1, with 13: {met:?}");
+    assert!(met.iter().all(|n| *n > 500), "{met:?}");
+}
+
+#[test]
+fn the_order_of_the_rules() {
+    let (one, area) = ([0; 64], |base| Windows::new(BASE, &[0; 64][..], base, &[0; 64][..]));
     let mut bad = small();
     bad[16] = 79;
-    step(BASE, &[0; 64], &bad, 1, refused(3, 0));
-    step(BASE, &[0; 64], &small(), 1, refused(4, 0));
-    assert_eq!(inputs::try_start(BASE, &[0; 64], &small(), 1, 0xD_0001, 0), refused(4, 0));
-}
-
-#[test]
-fn entries_are_one_to_sixteen() {
-    for n in [0usize, 1, 2, 15, 16, 17] {
-        let bodies: Vec<Body> = (0..n).map(|i| body(0x8000_0000 + 64 * i as u32, 2)).collect();
-        image(&build(&bodies), if (1..=16).contains(&n) { Ok(()) } else { refused(2, 0) });
+    for (image, pc, after) in [(&[][..], 1, refused(2, 0)), (&bad, 1, refused(3, 0)), (&small(), 1, refused(4, 0))] {
+        step(&Windows::one(BASE + 1, &one), image, pc, refused(1, 0));
+        step(&area(BASE + 1), image, pc, refused(1, 0));
+        step(&area(BASE), image, pc, refused(13, 0));
+        step(&area(BASE + 64), image, pc, after);
+        step(&Windows::one(BASE, &one), image, pc, after);
     }
-    for count in [0u32, 17, 18, 1 << 31, u32::MAX] {
-        let mut bytes = small();
-        put(&mut bytes, 0, count);
-        image(&bytes, refused(2, 0));
+    for (pc, expected) in [(1, refused(4, 0)), (0, refused(5, 0))] {
+        assert_eq!(inputs::try_start(&area(BASE + 64), &small(), pc, 0xD_0002, 0), expected);
     }
-}
-
-#[test]
-fn tables_cut_short() {
-    let whole = build(&[body(0x8000_0000, 2), body(0x8000_0100, 1)]);
-    image(&whole, Ok(()));
-    for len in 0..28 {
-        image(&whole[..len], refused(2, 0));
-    }
-    // the table is whole, and the first body runs past the end; then the second one
-    for len in 28..44 {
-        image(&whole[..len], refused(2, 1));
-    }
-    for len in 44..52 {
-        image(&whole[..len], refused(2, 2));
-    }
-}
-
-#[test]
-fn bytes_left_over() {
-    for extra in [1, 7, 8, 9] {
-        let mut bytes = build(&[body(0x8000_0000, 2), body(0x8000_0100, 1)]);
-        bytes.extend(vec![0; extra]);
-        image(&bytes, refused(2, 2));
-    }
-}
-
-#[test]
-fn record_counts() {
-    image(&build(&[body(0x8000_0000, 0)]), refused(2, 1));
-    image(&build(&[body(0x8000_0000, 1)]), Ok(()));
-    image(&build(&[body(0x8000_0000, 65_536)]), Ok(()));
-    image(&build(&[body(0x8000_0000, 65_537)]), refused(2, 1));
-    image(&build(&[body(0x8000_0000, 1), body(0x8000_0004, 0)]), refused(2, 2));
-}
-
-#[test]
-fn load_addresses() {
-    for (load, ok) in [(0u32, true), (1, false), (2, false), (3, false), (4, true), (0x8000_0002, false)] {
-        image(&build(&[body(load, 1)]), if ok { Ok(()) } else { refused(2, 1) });
-    }
-}
-
-#[test]
-fn ranges_touch_overlap_and_ascend() {
-    image(&build(&[body(0x8000_0000, 4), body(0x8000_0010, 1)]), Ok(()));
-    image(&build(&[body(0x8000_0000, 4), body(0x8000_000C, 1)]), refused(2, 2));
-    image(&build(&[body(0x8000_0010, 1), body(0x8000_0000, 1)]), refused(2, 2));
-    image(&build(&[body(0x8000_0000, 1), body(0x8000_0000, 1)]), refused(2, 2));
-    image(&build(&[body(0, 1), body(8, 1), body(4, 1)]), refused(2, 3));
-}
-
-#[test]
-fn ranges_stay_below_segment_e() {
-    image(&build(&[body(0xDFFF_FFFC, 1)]), Ok(()));
-    image(&build(&[body(0xDFFF_FFFC, 2)]), refused(2, 1));
-    image(&build(&[body(0xDFFF_FFF8, 2)]), Ok(()));
-    image(&build(&[body(0xE000_0000, 1)]), refused(2, 1));
-    image(&build(&[body(0xFFFF_FFFC, 1)]), refused(2, 1));
-}
-
-#[test]
-fn bodies_without_gaps() {
-    let whole = build(&[body(0x8000_0000, 2), body(0x8000_0100, 1)]);
-    for (entry, right) in [(1u32, 28u32), (2, 44)] {
-        for offset in [0, right - 8, right - 1, right + 1, right + 8, u32::MAX] {
-            let mut bytes = whole.clone();
-            put(&mut bytes, 4 + 12 * (entry as usize - 1) + 8, offset);
-            image(&bytes, refused(2, entry));
-        }
-    }
-}
-
-#[test]
-fn record_fields() {
-    let fields = [(0usize, 79u8), (1, 16), (2, 16), (3, 17)];
-    for index in [0usize, 1, 2, 4] {
-        for (field, bound) in fields {
-            for value in [bound - 1, bound, 255] {
-                let mut bytes = build(&[body(0x8000_0000, 3), body(0x8000_0100, 2)]);
-                bytes[28 + 8 * index + field] = value;
-                image(&bytes, if value < bound { Ok(()) } else { refused(3, index as u32) });
-            }
-        }
-    }
-}
-
-#[test]
-fn compared_registers_take_no_immediate() {
-    for op in 0..=78u8 {
-        let mut bytes = small();
-        bytes[16] = op;
-        bytes[19] = 16;
-        image(&bytes, if (57..=62).contains(&op) { refused(3, 0) } else { Ok(()) });
-        bytes[19] = 15;
-        image(&bytes, Ok(()));
-    }
-}
-
-#[test]
-fn the_first_record_at_fault() {
-    let mut bytes = build(&[body(0x8000_0000, 65_536), body(0x9000_0000, 65_536)]);
-    image(&bytes, Ok(()));
-    let last = bytes.len() - 8;
-    bytes[last] = 79;
-    image(&bytes, refused(3, 131_071));
-    bytes[28 + 8 * 70_000 + 1] = 16;
-    image(&bytes, refused(3, 70_000));
-}
-
-#[test]
-fn the_largest_image() {
-    let bodies: Vec<Body> = (0..16).map(|i| body(i << 24, 65_536)).collect();
-    let bytes = build(&bodies);
-    assert_eq!(bytes.len(), 4 + 12 * 16 + 8 * 16 * 65_536);
-    image(&bytes, Ok(()));
 }
 
 #[test]
 fn odd_starting_addresses() {
     for (pc, ok) in [(0u32, true), (1, false), (2, true), (0x8000_0001, false), (u32::MAX, false), (u32::MAX - 1, true)]
     {
-        step(BASE, &[0; 64], &small(), pc, if ok { Ok(()) } else { refused(4, 0) });
+        step(&Windows::one(BASE, &[0; 64]), &small(), pc, if ok { Ok(()) } else { refused(4, 0) });
     }
-}
-
-/// A window of n areas, linked from the first to the last, which ends the list.
-fn linked(n: usize) -> Vec<u8> {
-    let mut window = vec![0; 64 * n];
-    for k in 0..n - 1 {
-        put(&mut window, 64 * k, 0xD_0000 + k as u32 + 1);
-    }
-    window
-}
-
-#[test]
-fn lists_that_end() {
-    let w = linked(8);
-    lists(BASE, &w, 0, 0, Ok(()));
-    lists(BASE, &w, 0xD_0000, 0, Ok(()));
-    lists(BASE, &w, 0, 0xD_0000, Ok(()));
-    lists(BASE, &w, 0xD_0007, 0, Ok(()));
-    // the high bits of a head are no part of the link
-    lists(BASE, &w, 0xFFFD_0000, 0xFFF0_0000, Ok(()));
-    let mut two = linked(8);
-    put(&mut two, 64 * 3, 0xFFF0_0000);
-    lists(BASE, &two, 0xD_0000, 0x004D_0004, Ok(()));
-}
-
-#[test]
-fn links_outside_the_window() {
-    let w = linked(8);
-    for link in [0xD_0008, 0xC_0000, 0xE_0000, 1, 0xD_FFFF, 0xF_FFFF] {
-        lists(BASE, &w, link, 0, refused(5, 0));
-        lists(BASE, &w, 0, link, refused(5, 0));
-        let mut last = linked(8);
-        put(&mut last, 64 * 7, link);
-        lists(BASE, &last, 0xD_0000, 0, refused(5, 0));
-        lists(BASE, &last, 0, 0xD_0000, refused(5, 0));
-    }
-    // a window that begins after the first area of its segment
-    let w = linked(2);
-    lists(BASE + 64, &w[..64], 0xD_0000, 0, refused(5, 0));
-    lists(BASE + 64, &[0; 64], 0xD_0001, 0, Ok(()));
-    lists(BASE + 64, &[0; 64], 0xD_0002, 0, refused(5, 0));
-}
-
-#[test]
-fn areas_met_again() {
-    // an area that links to itself, a cycle, a cycle after a tail
-    for (at, back) in [(0usize, 0u32), (7, 0), (7, 3), (7, 7)] {
-        let mut w = linked(8);
-        put(&mut w, 64 * at, 0xD_0000 + back);
-        lists(BASE, &w, 0xD_0000, 0, refused(6, 0));
-        lists(BASE, &w, 0, 0xD_0000, refused(6, 0));
-    }
-    // the lists meet: at the head, in the middle, at the end
-    let w = linked(8);
-    for head in [0xD_0000, 0xD_0004, 0xD_0007] {
-        lists(BASE, &w, 0xD_0000, head, refused(6, 0));
-        lists(BASE, &w, head, 0xD_0000, refused(6, 0));
-    }
-}
-
-#[test]
-fn five_is_tried_before_six() {
-    // the used list: an area that was met, then one outside; and the other way round
-    let mut w = linked(8);
-    put(&mut w, 64 * 7, 0xD_0008);
-    lists(BASE, &w, 0xD_0004, 0xD_0000, refused(5, 0));
-    let mut w = linked(8);
-    put(&mut w, 64 * 3, 0);
-    put(&mut w, 64 * 5, 0xD_0000);
-    put(&mut w, 64, 0xD_0000);
-    lists(BASE, &w, 0xD_0000, 0xE_0000, refused(6, 0));
-    let mut w = linked(8);
-    put(&mut w, 64, 0);
-    lists(BASE, &w, 0xD_0000, 0xE_0000, refused(5, 0));
-    put(&mut w, 64 * 4, 0xD_0001);
-    lists(BASE, &w, 0xD_0000, 0xD_0004, refused(6, 0));
-}
-
-#[test]
-fn a_list_of_all_areas() {
-    let w = linked(1024);
-    lists(BASE, &w, 0xD_0000, 0, Ok(()));
-    lists(BASE, &w, 0, 0xD_0000, Ok(()));
-    let mut cycle = linked(1024);
-    put(&mut cycle, 64 * 1023, 0xD_0000);
-    lists(BASE, &cycle, 0xD_0000, 0, refused(6, 0));
-    put(&mut cycle, 64 * 1023, 0xD_0400);
-    lists(BASE, &cycle, 0xD_0000, 0, refused(5, 0));
-    let mut halves = linked(1024);
-    put(&mut halves, 64 * 511, 0);
-    lists(BASE, &halves, 0xD_0000, 0xD_0200, Ok(()));
-}
-
-#[test]
-fn lists_of_a_refused_window() {
-    assert_eq!(inputs::check_lists(BASE + 1, &[0; 64], 0, 0), refused(1, 0));
-    assert_eq!(inputs::check_lists(BASE, &[0; 65_600], 0xD_0000, 0), refused(1, 0));
-}
-
-#[test]
-fn records_are_found_where_they_begin() {
-    let record = |k: u32| Record {
-        op: (k % 79) as u8,
-        c: (k % 16) as u8,
-        a: (k / 3 % 16) as u8,
-        b: (k / 5 % 16) as u8,
-        imm: k.wrapping_mul(0x9E37_79B9),
-    };
-    let bodies = [
-        Body { load: 0x100, records: (0..3).map(record).collect() },
-        Body { load: 0x10C, records: (3..5).map(record).collect() },
-        Body { load: 0xDFFF_FFF0, records: (5..9).map(record).collect() },
-    ];
-    let bytes = build(&bodies);
-    for pc in (0xF8..0x130).chain(0xDFFF_FFE8..0xE000_0008).chain([0, u32::MAX]) {
-        let expected = record_at(&bytes, pc).map(|r| inputs::Fields { c: r.c, a: r.a, b: r.b, imm: r.imm });
-        assert_eq!(inputs::fetch(&bytes, pc), expected, "{pc:X}");
-        let inside = (0x100..0x114).contains(&pc) || (0xDFFF_FFF0..0xE000_0000).contains(&pc);
-        assert_eq!(expected.is_some(), inside && pc % 4 == 0, "{pc:X}");
-    }
-    assert_eq!(inputs::fetch(&bytes[..bytes.len() - 1], 0x100), None);
 }
 
 /// Damaged images and windows, made from a seed.
@@ -360,31 +173,45 @@ fn the_second_model_agrees_on_damaged_inputs() {
         seed ^= seed << 5;
         seed
     };
-    let (mut accepted, mut by_number) = (0, [0u32; 7]);
+    let (mut accepted, mut by_number) = (0, [0u32; 14]);
     for _ in 0..200_000 {
         let n = draw() % 3 + 1;
-        let bodies: Vec<Body> = (0..n).map(|i| body(0x8000_0000 + 64 * i, (draw() % 4 + 1) as usize)).collect();
+        let bodies: Vec<Body> = (0..n).map(|i| body(PC + 64 * i, (draw() % 4 + 1) as usize)).collect();
         let mut bytes = build(&bodies);
-        let mut window = linked(8);
+        let mut memory = linked(8);
         if draw() % 2 == 0 {
             let at = draw() as usize % bytes.len();
             bytes[at] = if draw() % 2 == 0 { draw() as u8 } else { bytes[at].wrapping_add(1) };
         }
         for _ in 0..draw() % 3 {
-            put(&mut window, 64 * (draw() as usize % 8), 0xD_0000 + draw() % 10);
+            put(&mut memory, 64 * (draw() as usize % 8), 0xD_0000 + draw() % 10);
         }
-        let base = if draw() % 20 == 0 { BASE + draw() % 128 } else { BASE };
-        let pc = if draw() % 20 == 0 { draw() } else { 0x8000_0000 };
+        // the memory as two windows in either order, sometimes as one; one of them is sometimes moved
+        let (lower, upper) = memory.split_at(64 * (draw() % 8 + 1) as usize);
+        let mut bases = [BASE, BASE + lower.len() as u32];
+        match draw() % 20 {
+            0 => bases[0] += draw() % 128,
+            1 => bases[1] += draw() % 128,
+            2 => bases[1] -= 64 * (draw() % 4),
+            _ => {}
+        }
+        let windows = match draw() % 2 {
+            0 => Windows::new(bases[0], lower, bases[1], upper),
+            _ if upper.is_empty() => Windows::new(bases[0], lower, draw(), upper),
+            _ => Windows::new(bases[1], upper, bases[0], lower),
+        };
+        let pc = if draw() % 20 == 0 { draw() } else { PC };
         let head = |d: u32| if d % 4 == 0 { 0 } else { 0xD_0000 + d / 4 % 9 };
         let (fcx, pcxi) = (head(draw()), head(draw()));
-        let expected = checks::start(base, &window, &bytes, pc, fcx, pcxi);
-        assert_eq!(inputs::try_start(base, &window, &bytes, pc, fcx, pcxi), expected);
-        assert_eq!(inputs::try_step(base, &window, &bytes, pc), checks::step(base, &window, &bytes, pc));
+        let expected = checks::start(&windows, &bytes, pc, fcx, pcxi);
+        assert_eq!(inputs::try_start(&windows, &bytes, pc, fcx, pcxi), expected);
+        assert_eq!(inputs::try_step(&windows, &bytes, pc), checks::step(&windows, &bytes, pc));
         match expected {
             Ok(()) => accepted += 1,
             Err(r) => by_number[r.number as usize] += 1,
         }
     }
     println!("accepted {accepted}, refused by number {by_number:?}");
-    assert!(accepted > 1000 && by_number[1..].iter().all(|n| *n > 1000), "{accepted} {by_number:?}");
+    let met = [1, 2, 3, 4, 5, 6, 13].iter().all(|number| by_number[*number] > 1000);
+    assert!(accepted > 1000 && met, "{accepted} {by_number:?}");
 }

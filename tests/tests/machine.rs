@@ -4,6 +4,7 @@ use deqbaryn_tests::host;
 use deqbaryn_tests::model::core::RECORD;
 use deqbaryn_tests::model::operations::Operation::{self, *};
 use deqbaryn_tests::model::system::offset;
+use deqbaryn_tests::model::windows::Windows;
 use deqbaryn_tests::model::{integer, machine};
 use deqbaryn_tests::worked::{plain, record, Worked, BASE, LOAD};
 
@@ -142,7 +143,7 @@ fn runs() {
         single = step(&single);
     }
     assert_eq!(w.run(100), 64 << 32 | 0x0B03);
-    assert!(w.core == single.core && w.window == single.window);
+    assert!(w.core == single.core && w.windows == single.windows);
     assert_eq!(w.run(3), 0x0B03);
     w.core.pc = 1;
     for n in [0, 1] {
@@ -153,6 +154,11 @@ fn runs() {
 }
 
 #[test]
+fn the_version_of_the_interface() {
+    assert_eq!(host::version(), 2);
+}
+
+#[test]
 fn starts_and_records_of_a_wrong_length() {
     let mut w = Worked::new(&[plain(Nop)]);
     assert_eq!(w.start(), 6);
@@ -160,17 +166,24 @@ fn starts_and_records_of_a_wrong_length() {
     assert_eq!(w.start(), 0x0604);
     w.core.pcxi = 0xD_0040;
     assert_eq!(w.start(), 0x0504);
+    // windows that rule 1 or 13 refuses too: the record's length is tried first
+    let sound = Windows::new(BASE, vec![1; 128], BASE + 128, vec![2; 64]);
+    let overlapping = Windows::new(BASE, vec![1; 128], BASE + 64, vec![2; 64]);
+    let odd = Windows::new(BASE + 1, vec![1; 128], BASE + 128, vec![2; 64]);
     for length in [0, 1, RECORD - 1, RECORD + 1, 2 * RECORD] {
-        let mut core = vec![3; length];
-        let (before, window) = (core.clone(), w.window.clone());
-        assert_eq!(machine::start(&core, BASE, &w.window, &w.image), 5);
-        assert_eq!(host::start(&core, BASE, &w.window, &w.image), 5);
-        for step in [machine::step, host::step] {
-            assert_eq!(step(&mut core, BASE, &mut w.window, &w.image), 5);
+        for mut windows in [w.windows.clone(), sound.clone(), overlapping.clone(), odd.clone()] {
+            let mut core = vec![3; length];
+            let (before, lent) = (core.clone(), windows.clone());
+            for start in [machine::start, host::start] {
+                assert_eq!(windows.start(start, &core, &w.image), 5);
+            }
+            for step in [machine::step, host::step] {
+                assert_eq!(windows.step(step, &mut core, &w.image), 5);
+            }
+            for run in [machine::run, host::run] {
+                assert_eq!(windows.run(run, &mut core, &w.image, 2), 5);
+            }
+            assert!(core == before && windows == lent);
         }
-        for run in [machine::run, host::run] {
-            assert_eq!(run(&mut core, BASE, &mut w.window, &w.image, 2), 5);
-        }
-        assert!(core == before && w.window == window);
     }
 }

@@ -1,11 +1,12 @@
 -- What an access that reaches its data has passed.
 -- Assumes nothing.
-use Prim.Native.Nat.{ℕ, _+_, _%_, _≤_}
+use Prim.Native.Nat.{ℕ, _%_}
 use mathlib.Core.Path.{_≡_}
 use mathlib.Core.Bool.{Bool, true, false, cond}
 use mathlib.Core.List.{List}
 use native.Mathlib.Omega.{arith}
 use lib.Dec.{eqb}
+use Rattle.memory.specs.Memory.{Windows, Within}
 use Rattle.areas.specs.Place.{placedAt}
 use Rattle.areas.specs.declared.link.Place.{Place}
 use Rattle.areas.specs.declared.link.Place.the-variants as place
@@ -23,9 +24,9 @@ use Rattle.accesses.specs.declared.reach.Reach.the-variants.{At, Traps}
 never : {A : Type 0} (t : Trap) (at : ℕ) → Traps t ≡ At at → A
 never t at e = absurd (let z : _≡_ {A = ℕ} 0 1 = cc in omega arith)
 
-module _ (base len : ℕ) (core : List ℕ) (rs : List Range) (right : Right) (guarded : Bool) (size alignment address at : ℕ) where
-  -- the data lies in the window
-  pub reach-found : reachOf base len core rs right guarded size alignment address ≡ At at → placedAt base len size (record { 0 = address }) ≡ place.At at
+module _ (w : Windows) (len : ℕ) (core : List ℕ) (rs : List Range) (right : Right) (guarded : Bool) (size alignment address at : ℕ) where
+  -- the data lies in a window
+  pub reach-found : reachOf w len core rs right guarded size alignment address ≡ At at → placedAt w len size (record { 0 = address }) ≡ place.At at
   unfolding reachOf alignedReach
   reach-found = checked (checkOf core rs right address)
     where
@@ -33,19 +34,19 @@ module _ (base len : ℕ) (core : List ℕ) (rs : List Range) (right : Right) (g
       placed place.Outside e = never _ at e
       placed (place.At k) e = let z : k ≡ at = cc in rw z
 
-      aligned : (a : Bool) → cond a (placedReach (placedAt base len size (record { 0 = address }))) (Traps ALN) ≡ At at → placedAt base len size (record { 0 = address }) ≡ place.At at
+      aligned : (a : Bool) → cond a (placedReach (placedAt w len size (record { 0 = address }))) (Traps ALN) ≡ At at → placedAt w len size (record { 0 = address }) ≡ place.At at
       aligned true e = placed _ e
       aligned false e = never _ at e
 
-      unguarded : (g : Bool) → cond g (Traps GRWP) (cond (eqb (address % alignment) 0) (placedReach (placedAt base len size (record { 0 = address }))) (Traps ALN)) ≡ At at
-          → placedAt base len size (record { 0 = address }) ≡ place.At at
+      unguarded : (g : Bool) → cond g (Traps GRWP) (cond (eqb (address % alignment) 0) (placedReach (placedAt w len size (record { 0 = address }))) (Traps ALN)) ≡ At at
+          → placedAt w len size (record { 0 = address }) ≡ place.At at
       unguarded true e = never _ at e
       unguarded false e = aligned (eqb (address % alignment) 0) e
 
-      checked : (c : Check) → checkedReach c (cond guarded (Traps GRWP) (cond (eqb (address % alignment) 0) (placedReach (placedAt base len size (record { 0 = address }))) (Traps ALN))) ≡ At at
-          → placedAt base len size (record { 0 = address }) ≡ place.At at
+      checked : (c : Check) → checkedReach c (cond guarded (Traps GRWP) (cond (eqb (address % alignment) 0) (placedReach (placedAt w len size (record { 0 = address }))) (Traps ALN))) ≡ At at
+          → placedAt w len size (record { 0 = address }) ≡ place.At at
       checked (Fails t) e = never t at e
       checked Passes e = unguarded guarded e
 
-  pub reach-inside : reachOf base len core rs right guarded size alignment address ≡ At at → at + size ≤ len
-  reach-inside e = place-found _ _ _ _ _ (reach-found e) .inside
+  pub reach-inside : reachOf w len core rs right guarded size alignment address ≡ At at → Within (w .split) len at size
+  reach-inside e = place-found _ _ _ _ _ (reach-found e)

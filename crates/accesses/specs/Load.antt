@@ -81,4 +81,4 @@ loadBy op i r m (At at) = done (withPc (i .next) (putOf op (i .c) (readOf op (m 
 -- register c = the value at A[a] plus immediate
 unfoldable pub loadOf : Load → Instruction → Registers → List Range → Memory → Ended
 loadOf op i r rs m =
-    loadBy op i r m (reachOf (m .base) (length (m .bytes)) (r .core) rs Read (loadGuards op (psw r) (i .c)) (sizeOf op) (alignmentOf op) (addressIn i (r .a)))
+    loadBy op i r m (reachOf (m .windows) (length (m .bytes)) (r .core) rs Read (loadGuards op (psw r) (i .c)) (sizeOf op) (alignmentOf op) (addressIn i (r .a)))

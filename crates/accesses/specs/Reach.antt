@@ -1,8 +1,9 @@
--- Where an access to data reaches: its place in the window, or the trap that it takes.
+-- Where an access to data reaches: its place in the windows, or the trap that it takes.
 use Prim.Native.Nat.{ℕ, _%_}
 use mathlib.Core.Bool.{Bool, cond}
 use mathlib.Core.List.{List}
 use lib.Dec.{eqb}
+use Rattle.memory.specs.Memory.{Windows}
 use Rattle.areas.specs.Place.{placedAt}
 use Rattle.areas.specs.declared.link.Place.{Place}
 use Rattle.areas.specs.declared.link.Place.the-variants as place
@@ -15,22 +16,22 @@ use Rattle.protection.specs.declared.access.Check.the-variants.{Passes, Fails}
 use Rattle.accesses.specs.declared.reach.Reach.{Reach}
 use Rattle.accesses.specs.declared.reach.Reach.the-variants.{At, Traps}
 
--- 4/2: data not wholly in the window
+-- 4/2: data not wholly in one window
 abbrev pub placedReach : Place → Reach
 placedReach place.Outside = Traps DATA
 placedReach (place.At at) = At at
 
 -- the traps after those of protection, lowest first: 1/7 where GW guards the register that is written, 2/4, 4/2
-unfoldable pub alignedReach : ℕ → ℕ → Bool → ℕ → ℕ → ℕ → Reach
-alignedReach base len guarded size alignment address =
+unfoldable pub alignedReach : Windows → ℕ → Bool → ℕ → ℕ → ℕ → Reach
+alignedReach w len guarded size alignment address =
     cond guarded (Traps GRWP)
-    (cond (eqb (address % alignment) 0) (placedReach (placedAt base len size (record { 0 = address }))) (Traps ALN))
+    (cond (eqb (address % alignment) 0) (placedReach (placedAt w len size (record { 0 = address }))) (Traps ALN))
 
 abbrev pub checkedReach : Check → Reach → Reach
 checkedReach (Fails t) reach = Traps t
 checkedReach Passes reach = reach
 
--- an access of `size` bytes at an address that has to be a multiple of `alignment`, in a window of len bytes at base
-unfoldable pub reachOf : ℕ → ℕ → List ℕ → List Range → Right → Bool → ℕ → ℕ → ℕ → Reach
-reachOf base len core rs right guarded size alignment address =
-    checkedReach (checkOf core rs right address) (alignedReach base len guarded size alignment address)
+-- an access of `size` bytes at an address that has to be a multiple of `alignment`, in two windows of len bytes in all
+unfoldable pub reachOf : Windows → ℕ → List ℕ → List Range → Right → Bool → ℕ → ℕ → ℕ → Reach
+reachOf w len core rs right guarded size alignment address =
+    checkedReach (checkOf core rs right address) (alignedReach w len guarded size alignment address)

@@ -45,4 +45,4 @@ storeBy op i r (At at) = Write op at (valueOf op (i .c) (r .d) (r .a)) (withPc (
 -- register c goes to A[a] plus immediate; no register is written
 unfoldable pub storeOf : Store → Instruction → Registers → List Range → Memory → Act
 storeOf op i r rs m =
-    storeBy op i r (reachOf (m .base) (length (m .bytes)) (r .core) rs right.Write false (sizeOf op) (alignmentOf op) (addressIn i (r .a)))
+    storeBy op i r (reachOf (m .windows) (length (m .bytes)) (r .core) rs right.Write false (sizeOf op) (alignmentOf op) (addressIn i (r .a)))

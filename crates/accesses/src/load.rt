@@ -4,9 +4,9 @@ use crate::reach::Reach;
 use crate::reach::reach_data;
 use acts::How;
 use image::fetch::Instruction;
-use memory::byte_at;
-use memory::half_at;
-use memory::word_at;
+use memory::windows::byte_in;
+use memory::windows::half_in;
+use memory::windows::word_in;
 use operations::Load;
 use protection::range::Right;
 use registers::PC;
@@ -15,7 +15,7 @@ use registers::guarded;
 use registers::plus;
 ghost use mathlib.Core.Path.{_≡_};
 ghost use Prim.Native.Nat.{_<_};
-ghost use Rattle.memory.specs.Memory.{memory};
+ghost use Rattle.memory.specs.Memory.{lent};
 ghost use Rattle.registers.specs.Registers.{registers, withD, withPc};
 ghost use Rattle.protection.specs.Range.{rangesIn};
 ghost use Rattle.image.specs.Fetch.{FieldsHold};
@@ -65,6 +65,8 @@ fn put_data(
 pub fn execute_load(
     base: u32,
     window: &[u8],
+    base2: u32,
+    window2: &[u8],
     d: &mut [u32; 16],
     a: &mut [u32; 16],
     core: &mut [u32; 10],
@@ -73,53 +75,138 @@ pub fn execute_load(
     i: Instruction,
 ) -> How
     requires { ⌜ FieldsHold i ⌝ }
-    ensures { λ r. ⌜ ended r (registers (now (d .exit)) (now (a .exit)) (now (core .exit))) ≡ loadOf op i (registers (now (d .entry)) (now (a .entry)) (now (core .entry))) (rangesIn (now (ranges .entry))) (memory base (now (window .entry))) ⌝ }
+    ensures { λ r. ⌜ ended r (registers (now (d .exit)) (now (a .exit)) (now (core .exit))) ≡ loadOf op i (registers (now (d .entry)) (now (a .entry)) (now (core .entry))) (rangesIn (now (ranges .entry))) (lent base (now (window .entry)) base2 (now (window2 .entry))) ⌝ }
 {
     let c = i.c;
     let x = i.a;
     let address = plus(a[x], i.imm);
-    let len = window.len();
     match op {
         Load::LdB => {
-            match reach_data(base, len, core, ranges, Right::Read, false, 1, 1, address) {
+            match reach_data(
+                base,
+                window,
+                base2,
+                window2,
+                core,
+                ranges,
+                Right::Read,
+                false,
+                1,
+                1,
+                address,
+            ) {
                 Reach::Traps(t) => How::Trap(t),
                 Reach::At(at) => {
-                    put_data(d, a, core, c, signed_byte(byte_at(window, at)), i.next)
+                    put_data(
+                        d,
+                        a,
+                        core,
+                        c,
+                        signed_byte(byte_in(window, window2, at)),
+                        i.next,
+                    )
                 }
             }
         }
         Load::LdBu => {
-            match reach_data(base, len, core, ranges, Right::Read, false, 1, 1, address) {
+            match reach_data(
+                base,
+                window,
+                base2,
+                window2,
+                core,
+                ranges,
+                Right::Read,
+                false,
+                1,
+                1,
+                address,
+            ) {
                 Reach::Traps(t) => How::Trap(t),
-                Reach::At(at) => put_data(d, a, core, c, byte_at(window, at), i.next),
+                Reach::At(at) => put_data(d, a, core, c, byte_in(window, window2, at), i.next),
             }
         }
         Load::LdH => {
-            match reach_data(base, len, core, ranges, Right::Read, false, 2, 2, address) {
+            match reach_data(
+                base,
+                window,
+                base2,
+                window2,
+                core,
+                ranges,
+                Right::Read,
+                false,
+                2,
+                2,
+                address,
+            ) {
                 Reach::Traps(t) => How::Trap(t),
                 Reach::At(at) => {
-                    put_data(d, a, core, c, signed_half(half_at(window, at)), i.next)
+                    put_data(
+                        d,
+                        a,
+                        core,
+                        c,
+                        signed_half(half_in(window, window2, at)),
+                        i.next,
+                    )
                 }
             }
         }
         Load::LdHu => {
-            match reach_data(base, len, core, ranges, Right::Read, false, 2, 2, address) {
+            match reach_data(
+                base,
+                window,
+                base2,
+                window2,
+                core,
+                ranges,
+                Right::Read,
+                false,
+                2,
+                2,
+                address,
+            ) {
                 Reach::Traps(t) => How::Trap(t),
-                Reach::At(at) => put_data(d, a, core, c, half_at(window, at), i.next),
+                Reach::At(at) => put_data(d, a, core, c, half_in(window, window2, at), i.next),
             }
         }
         Load::LdW => {
-            match reach_data(base, len, core, ranges, Right::Read, false, 4, 2, address) {
+            match reach_data(
+                base,
+                window,
+                base2,
+                window2,
+                core,
+                ranges,
+                Right::Read,
+                false,
+                4,
+                2,
+                address,
+            ) {
                 Reach::Traps(t) => How::Trap(t),
-                Reach::At(at) => put_data(d, a, core, c, word_at(window, at), i.next),
+                Reach::At(at) => put_data(d, a, core, c, word_in(window, window2, at), i.next),
             }
         }
         Load::LdA => {
             let guard = guarded(core[PSW], c);
-            match reach_data(base, len, core, ranges, Right::Read, guard, 4, 4, address) {
+            match reach_data(
+                base,
+                window,
+                base2,
+                window2,
+                core,
+                ranges,
+                Right::Read,
+                guard,
+                4,
+                4,
+                address,
+            ) {
                 Reach::Traps(t) => How::Trap(t),
                 Reach::At(at) => {
-                    a[c] = word_at(window, at);
+                    a[c] = word_in(window, window2, at);
                     core[PC] = i.next;
                     How::Done
                 }

@@ -1,4 +1,4 @@
-// Where an access reaches in the window, or the trap that it takes.
+// Where an access reaches in the windows, or the trap that it takes.
 
 use areas::link::Address;
 use areas::link::Place;
@@ -11,6 +11,9 @@ use protection::access::Check;
 use protection::access::check_access;
 use protection::range::Right;
 ghost use mathlib.Core.Path.{_≡_};
+ghost use mathlib.Core.List.{_++_};
+ghost use lib.ListN.{length};
+ghost use Rattle.memory.specs.Memory.{windows};
 ghost use Prim.Native.Nat.{_<_};
 ghost use Rattle.protection.specs.Range.{rangesIn};
 ghost use Rattle.accesses.specs.Reach.{alignedReach, reachOf};
@@ -23,14 +26,16 @@ pub enum Reach {
 // Of an access that protection permits.
 fn reach_aligned(
     base: u32,
-    len: usize,
+    window: &[u8],
+    base2: u32,
+    window2: &[u8],
     guarded: bool,
     size: u8,
     alignment: u32,
     address: u32,
 ) -> Reach
     requires { ⌜ 0 < alignment ⌝ }
-    ensures { λ r. ⌜ r ≡ alignedReach base len guarded size alignment address ⌝ }
+    ensures { λ r. ⌜ r ≡ alignedReach (windows base (length (now (window .entry))) base2) (length (now (window .entry) ++ now (window2 .entry))) guarded size alignment address ⌝ }
 {
     if guarded {
         return Reach::Traps(GRWP);
@@ -38,16 +43,25 @@ fn reach_aligned(
     if address % alignment != 0 {
         return Reach::Traps(ALN);
     }
-    match place_at(Address(base), len, size, Address(address)) {
+    match place_at(
+        Address(base),
+        window,
+        Address(base2),
+        window2,
+        size,
+        Address(address),
+    ) {
         Place::Outside => Reach::Traps(DATA),
         Place::At(at) => Reach::At(at),
     }
 }
 
-// An access of some bytes to an address, in a window of len bytes at base. `guarded` says that GW forbids the register that it writes.
+// An access of some bytes to an address, in one of the two windows. `guarded` says that GW forbids the register that it writes.
 pub fn reach_data(
     base: u32,
-    len: usize,
+    window: &[u8],
+    base2: u32,
+    window2: &[u8],
     core: &[u32; 10],
     ranges: &[u32; 96],
     right: Right,
@@ -57,10 +71,19 @@ pub fn reach_data(
     address: u32,
 ) -> Reach
     requires { ⌜ 0 < alignment ⌝ }
-    ensures { λ r. ⌜ r ≡ reachOf base len (now (core .entry)) (rangesIn (now (ranges .entry))) right guarded size alignment address ⌝ }
+    ensures { λ r. ⌜ r ≡ reachOf (windows base (length (now (window .entry))) base2) (length (now (window .entry) ++ now (window2 .entry))) (now (core .entry)) (rangesIn (now (ranges .entry))) right guarded size alignment address ⌝ }
 {
     match check_access(core, ranges, right, address) {
         Check::Fails(t) => Reach::Traps(t),
-        Check::Passes => reach_aligned(base, len, guarded, size, alignment, address),
+        Check::Passes => reach_aligned(
+            base,
+            window,
+            base2,
+            window2,
+            guarded,
+            size,
+            alignment,
+            address,
+        ),
     }
 }

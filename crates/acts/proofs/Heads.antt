@@ -43,7 +43,7 @@ module _ (half : Half) (words core : List ℕ) (m : Memory) (k : ℕ) (n2 : k �
   unfolding saveAtOf
   at-other at = by (eqb (linkOf (getD core 3 0) .0) (linkOf (getD core 4 0) .0))
     where
-      by : (t : Bool) → getD (cond t (depletedBy half words at core m (roomOf m (wordAt (m .bytes) at))) (taking saved.Done (m .base) (takeOf half words at core (m .bytes))) .core) k 0 ≡ getD core k 0
+      by : (t : Bool) → getD (cond t (depletedBy half words at core m (roomOf m (wordAt (m .bytes) at))) (taking saved.Done (m .windows) (takeOf half words at core (m .bytes))) .core) k 0 ≡ getD core k 0
       by true = depleted-other at (roomOf m (wordAt (m .bytes) at))
       by false = take-other at
 

@@ -75,7 +75,7 @@ returnDid then returned.Done r m = did how.Done (then r) m
 -- an act performed. This alone changes memory. The heads are changed by a save and a return, and by an MTCR to FCX or PCXI: an act that ends with them set
 abbrev pub performOf : Act → Registers → Memory → Did
 performOf (Ends e) r m = did (e .how) (e .registers) m
-performOf (Write op at v after) r m = did how.Done after (memory (m .base) (storedOf op (m .bytes) at v))
+performOf (Write op at v after) r m = did how.Done after (memory (m .windows) (storedOf op (m .bytes) at v))
 performOf (Save half pc then) r m =
     let v = saveOf half (contextOf half pc r) (r .core) m in saveDid then r (v .saved) (v .core) (v .memory)
 performOf (Return half then) r m = let v = returnOf half r m in returnDid then (v .returned) (v .registers) (v .memory)

@@ -11,6 +11,7 @@ use Rattle.inputs.specs.declared.verdict.Refusal.the-variants as refusal
 
 pub number-small : (x : Refusal) → numberOf x < 256
 number-small refusal.Window = omega arith
+number-small refusal.Overlap = omega arith
 number-small (refusal.Table entry) = omega arith
 number-small (refusal.Record index) = omega arith
 number-small refusal.OddPc = omega arith

@@ -1,44 +1,154 @@
--- Where areas lie: a place is in the window, and two links' areas are the same or apart.
+-- Where areas lie: a place is in one of the windows, and two links' areas are the same or apart.
 -- Assumes nothing.
 use Prim.Native.Nat.{ℕ, _+_, _-_, _*_, _/_, _%_, _^_, _≤_, _<_}
 use native.Mathlib.Nat.{lt-of-not-le}
 use native.Mathlib.Decide.{decLe}
 use native.Mathlib.Omega.{arith}
-use mathlib.Core.Path.{_≡_, refl}
+use mathlib.Core.Path.{_≡_, refl, sym, _∙_}
 use mathlib.Core.Bool.{Bool, true, false, cond}
-use mathlib.Core.Logic.{_⊎_, inl, inr}
+use mathlib.Core.List.{List, _++_}
+use mathlib.Core.Logic.{_⊎_, inl, inr, ⊎-elim}
+use lib.ListN.{length}
 use lib.Dec.{ltb}
 use borrow.Author.Tests.{ltb-false}
+use Rattle.memory.specs.Memory.{Windows, windows, lent, firstLength, secondLength, Within}
+use Rattle.memory.proofs.Joined.{first-length, second-length}
 use Rattle.areas.specs.Link.{addressOf}
-use Rattle.areas.specs.Place.{placedAt, placed}
+use Rattle.areas.specs.Place.{placedIn, eitherSpot, spotAt, joinedPlace, placedAt, placed, spotOf, placeOf, LiesIn, offset}
 use Rattle.areas.specs.declared.link.Link.{Link}
 use Rattle.areas.specs.declared.link.Address.{Address}
+use Rattle.areas.specs.declared.link.Place.{Place}
 use Rattle.areas.specs.declared.link.Place.the-variants.{At, Outside}
+use Rattle.areas.specs.declared.link.Spot.{Spot}
+use Rattle.areas.specs.declared.link.Spot.the-variants.{First, Second, Neither}
 
 pub never-at : {n : ℕ} → Outside ≡ At n → ⊥
 never-at e = let z : _≡_ {A = ℕ} 0 1 = cc in omega arith
+
+never-first : {n k : ℕ} → First n ≡ Second k → ⊥
+never-first e = let z : _≡_ {A = ℕ} 0 1 = cc in omega arith
+
+first-some : {n : ℕ} → First n ≡ Neither → ⊥
+first-some e = let z : _≡_ {A = ℕ} 0 1 = cc in omega arith
+
+second-some : {n : ℕ} → Second n ≡ Neither → ⊥
+second-some e = let z : _≡_ {A = ℕ} 0 1 = cc in omega arith
 
 picked : (t u : Bool) (n at : ℕ) → cond t Outside (cond u Outside (At n)) ≡ At at → (t ≡ false) × (u ≡ false) × (n ≡ at)
 picked true u n at e = absurd (never-at e)
 picked false true n at e = absurd (never-at e)
 picked false false n at e = (refl, refl, cc)
 
--- a place that is found
-pub record Found (base len size : ℕ) (a : Address) (at : ℕ) : Type 0 where
+-- a place that is found in a window
+pub record FoundIn (base len size : ℕ) (a : Address) (at : ℕ) : Type 0 where
   pub above : base ≤ a .0
   pub is : at + base ≡ a .0
   pub inside : at + size ≤ len
 
-pub place-found : (base len size : ℕ) (a : Address) (at : ℕ) → placedAt base len size a ≡ At at → Found base len size a at
-unfolding placedAt
-place-found base len size a at e =
+pub found-in : (base len size : ℕ) (a : Address) (at : ℕ) → placedIn base len size a ≡ At at → FoundIn base len size a at
+unfolding placedIn
+found-in base len size a at e =
     let r = picked (ltb (a .0) base) (ltb len (a .0 - base + size)) (a .0 - base) at e in
     let t = ltb-false (a .0) base (r .0) in
     let u = ltb-false len (a .0 - base + size) (r .1) in
     record { above = t; is = omega arith; inside = omega arith }
 
-pub placed-at : (base len : ℕ) (a : Address) (at : ℕ) → placed base len a ≡ At at → Found base len 64 a at
-placed-at base len a at e = place-found base len 64 a at e
+-- and in one of the two
+data Found (w : Windows) (len size : ℕ) (a : Address) (at : ℕ) : Type 0 where
+  in-first : FoundIn (w .first) (firstLength w len) size a at → Found w len size a at
+  in-second : (k : ℕ) → firstLength w len + k ≡ at → FoundIn (w .second) (secondLength w len) size a k → Found w len size a at
+
+found : (w : Windows) (len size : ℕ) (a : Address) (at : ℕ) → placedAt w len size a ≡ At at → Found w len size a at
+unfolding placedAt spotAt
+found w len size a at = by (placedIn (w .first) (firstLength w len) size a) refl (placedIn (w .second) (secondLength w len) size a) refl
+  where
+    by : (p : Place) → placedIn (w .first) (firstLength w len) size a ≡ p → (q : Place) → placedIn (w .second) (secondLength w len) size a ≡ q
+        → joinedPlace (firstLength w len) (eitherSpot p q) ≡ At at → Found w len size a at
+    by (At k) e q f g = let z : k ≡ at = cc in in-first (found-in (w .first) (firstLength w len) size a at (rw (← z) e))
+    by Outside e (At k) f g = let z : firstLength w len + k ≡ at = cc in in-second k z (found-in (w .second) (secondLength w len) size a k f)
+    by Outside e Outside f g = absurd (never-at g)
+
+-- the cases of the search, as the code has them
+module _ (s t : List ℕ) (base base2 size : ℕ) (a : Address) where
+  pub spot-first : (at : ℕ) → placedIn base (length s) size a ≡ At at → First at ≡ spotAt (windows base (length s) base2) (length (s ++ t)) size a
+  unfolding spotAt
+  spot-first at e = rw (first-length s t base base2, e)
+
+  pub spot-second : (k : ℕ) → placedIn base (length s) size a ≡ Outside → placedIn base2 (length t) size a ≡ At k
+      → Second k ≡ spotAt (windows base (length s) base2) (length (s ++ t)) size a
+  unfolding spotAt
+  spot-second k e f = rw (first-length s t base base2, second-length s t base base2, e, f)
+
+  pub spot-neither : placedIn base (length s) size a ≡ Outside → placedIn base2 (length t) size a ≡ Outside
+      → Neither ≡ spotAt (windows base (length s) base2) (length (s ++ t)) size a
+  unfolding spotAt
+  spot-neither e f = rw (first-length s t base base2, second-length s t base base2, e, f)
+
+  pub place-of-spot : (x : Spot) → x ≡ spotAt (windows base (length s) base2) (length (s ++ t)) size a
+      → joinedPlace (length s) x ≡ placedAt (windows base (length s) base2) (length (s ++ t)) size a
+  unfolding placedAt
+  place-of-spot x e = rw (first-length s t base base2, ← e)
+
+  -- a spot that is found lies in the window that it names, and is not past the address
+  pub lies-first : (at : ℕ) → First at ≡ spotAt (windows base (length s) base2) (length (s ++ t)) size a → at + size ≤ length s
+  unfolding spotAt
+  lies-first at = by (placedIn base (firstLength w n) size a) refl (placedIn base2 (secondLength w n) size a)
+    where
+      w : Windows
+      w = windows base (length s) base2
+      n : ℕ
+      n = length (s ++ t)
+      by : (p : Place) → placedIn base (firstLength w n) size a ≡ p → (q : Place) → First at ≡ eitherSpot p q → at + size ≤ length s
+      by (At k) e q g = let z : at ≡ k = cc in let i = found-in base (firstLength w n) size a k e .inside in let l = first-length s t base base2 in omega arith
+      by Outside e (At k) g = absurd (never-first g)
+      by Outside e Outside g = absurd (first-some g)
+
+  pub lies-second : (at : ℕ) → Second at ≡ spotAt (windows base (length s) base2) (length (s ++ t)) size a → (at + size ≤ length t) × (at ≤ a .0)
+  unfolding spotAt
+  lies-second at = by (placedIn base (firstLength w n) size a) (placedIn base2 (secondLength w n) size a) refl
+    where
+      w : Windows
+      w = windows base (length s) base2
+      n : ℕ
+      n = length (s ++ t)
+      by : (p q : Place) → placedIn base2 (secondLength w n) size a ≡ q → Second at ≡ eitherSpot p q → (at + size ≤ length t) × (at ≤ a .0)
+      by (At k) q f g = absurd (never-first (sym g))
+      by Outside (At k) f g =
+          let z : at ≡ k = cc in
+          let r = found-in base2 (secondLength w n) size a k f in
+          let i = r .inside in
+          let j = r .is in
+          let l = second-length s t base base2 in
+          (omega arith, omega arith)
+      by Outside Outside f g = absurd (second-some g)
+
+-- ---- the spot of an area
+module _ (s t : List ℕ) (b c : ℕ) (l : Link) where
+  pub spot-lies : (x : Spot) → x ≡ spotOf (lent b s c t) l → (x ≡ Neither → ⊥) → LiesIn (length s) (length t) 64 x
+  spot-lies (First at) e some = lies-first s t b c 64 (addressOf l) at e
+  spot-lies (Second at) e some = lies-second s t b c 64 (addressOf l) at e .0
+  spot-lies Neither e some = absurd (some refl)
+
+  -- an area that has a place has a spot, and that is the place
+  pub spot-at-place : (x : Spot) → x ≡ spotOf (lent b s c t) l → (at : ℕ) → placeOf (lent b s c t) l ≡ At at
+      → LiesIn (length s) (length t) 64 x × (offset (length s) x ≡ at)
+  spot-at-place x e at p = by x e (place-of-spot s t b c 64 (addressOf l) x e ∙ p)
+    where
+      by : (x : Spot) → x ≡ spotOf (lent b s c t) l → joinedPlace (length s) x ≡ At at → LiesIn (length s) (length t) 64 x × (offset (length s) x ≡ at)
+      by (First k) e g = (lies-first s t b c 64 (addressOf l) k e, cc)
+      by (Second k) e g = (lies-second s t b c 64 (addressOf l) k e .0, cc)
+      by Neither e g = absurd (never-at g)
+
+-- it lies wholly in one window
+pub place-found : (w : Windows) (len size : ℕ) (a : Address) (at : ℕ) → placedAt w len size a ≡ At at → Within (w .split) len at size
+place-found w len size a at e = by (found w len size a at e)
+  where
+    by : Found w len size a at → Within (w .split) len at size
+    by (in-first f) = let i = f .inside in record { inside = omega arith; one = λ h. omega arith }
+    by (in-second k s f) = let i = f .inside in record { inside = omega arith; one = λ h. omega arith }
+
+pub placed-at : (w : Windows) (len : ℕ) (a : Address) (at : ℕ) → placed w len a ≡ At at → Within (w .split) len at 64
+placed-at w len a at e = place-found w len 64 a at e
 
 -- two links' areas are the same or apart
 same-area : (h l h' l' : ℕ) → l < 2 ^ 16 → l' < 2 ^ 16 → h * 2 ^ 28 + l * 64 < h' * 2 ^ 28 + l' * 64 + 64 → h' * 2 ^ 28 + l' * 64 < h * 2 ^ 28 + l * 64 + 64 → (h ≡ h') × (l ≡ l')
@@ -50,17 +160,28 @@ same-area h l h' l' hl hl' a b =
 same-link : (n k : ℕ) → n < 2 ^ 20 → k < 2 ^ 20 → n / 2 ^ 16 % 16 ≡ k / 2 ^ 16 % 16 → n % 2 ^ 16 ≡ k % 2 ^ 16 → n ≡ k
 same-link n k hn hk p q = omega arith
 
-pub apart : (base len : ℕ) (l k : Link) (at bt : ℕ) → l .0 < 2 ^ 20 → k .0 < 2 ^ 20 → (l .0 ≡ k .0 → ⊥)
-    → placed base len (addressOf l) ≡ At at → placed base len (addressOf k) ≡ At bt → (at + 64 ≤ bt) ⊎ (bt + 64 ≤ at)
-apart base len l k at bt hl hk ne p q = either (decLe (at + 64) bt) (decLe (bt + 64) at)
+apart-in : (base len : ℕ) (l k : Link) (at bt : ℕ) → l .0 < 2 ^ 20 → k .0 < 2 ^ 20 → (l .0 ≡ k .0 → ⊥)
+    → FoundIn base len 64 (addressOf l) at → FoundIn base len 64 (addressOf k) bt → (at + 64 ≤ bt) ⊎ (bt + 64 ≤ at)
+apart-in base len l k at bt hl hk ne u v = either (decLe (at + 64) bt) (decLe (bt + 64) at)
   where
     either : Dec (at + 64 ≤ bt) → Dec (bt + 64 ≤ at) → (at + 64 ≤ bt) ⊎ (bt + 64 ≤ at)
     either (yes h) e = inl h
     either (no f) (yes h) = inr h
     either (no f) (no g) =
-        let u = placed-at base len (addressOf l) at p in
-        let v = placed-at base len (addressOf k) bt q in
         let f' = lt-of-not-le f in
         let g' = lt-of-not-le g in
+        let u' = u .is in
+        let v' = v .is in
         let r = same-area (l .0 / 2 ^ 16 % 16) (l .0 % 2 ^ 16) (k .0 / 2 ^ 16 % 16) (k .0 % 2 ^ 16) (omega arith) (omega arith) (omega arith) (omega arith) in
         absurd (ne (same-link (l .0) (k .0) hl hk (r .0) (r .1)))
+
+-- in different windows they are apart as the windows are
+pub apart : (w : Windows) (len : ℕ) (l k : Link) (at bt : ℕ) → l .0 < 2 ^ 20 → k .0 < 2 ^ 20 → (l .0 ≡ k .0 → ⊥)
+    → placed w len (addressOf l) ≡ At at → placed w len (addressOf k) ≡ At bt → (at + 64 ≤ bt) ⊎ (bt + 64 ≤ at)
+apart w len l k at bt hl hk ne p q = by (found w len 64 (addressOf l) at p) (found w len 64 (addressOf k) bt q)
+  where
+    by : Found w len 64 (addressOf l) at → Found w len 64 (addressOf k) bt → (at + 64 ≤ bt) ⊎ (bt + 64 ≤ at)
+    by (in-first f) (in-first g) = apart-in (w .first) (firstLength w len) l k at bt hl hk ne f g
+    by (in-first f) (in-second j s g) = let i = f .inside in inl (omega arith)
+    by (in-second i s f) (in-first g) = let i = g .inside in inr (omega arith)
+    by (in-second i s f) (in-second j t g) = ⊎-elim (λ x. inl (omega arith)) (λ x. inr (omega arith)) (apart-in (w .second) (secondLength w len) l k i j hl hk ne f g)

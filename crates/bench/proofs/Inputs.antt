@@ -2,13 +2,13 @@
 -- Assumes nothing.
 use mathlib.Core.Path.{refl}
 use Rattle.memory.specs.Word.{wordAt}
-use Rattle.areas.specs.Place.{placedAt}
+use Rattle.areas.specs.Place.{placedAt, placedIn}
 use Rattle.lists.specs.Walk.{walkOf, listsOf}
 use Rattle.image.specs.Table.{entryAt, entryHolds, entriesFrom, tableOf}
 use Rattle.image.specs.Records.{recordHolds, recordsFrom, imageOf}
-use Rattle.inputs.specs.Checks.{windowHolds, stepVerdict, startVerdict}
+use Rattle.inputs.specs.Checks.{windowHolds, secondHolds, apartHolds, windowsVerdict, stepVerdict, startVerdict}
 use Rattle.bench.specs.Accepted.{PoolAccepted}
 
 pub pool-accepted : PoolAccepted
-unfolding wordAt placedAt walkOf listsOf entryAt entryHolds entriesFrom tableOf recordHolds recordsFrom imageOf windowHolds stepVerdict startVerdict
+unfolding wordAt placedAt placedIn walkOf listsOf entryAt entryHolds entriesFrom tableOf recordHolds recordsFrom imageOf windowHolds secondHolds apartHolds windowsVerdict stepVerdict startVerdict
 pool-accepted = refl

@@ -20,7 +20,7 @@ use registers::PCXI;
 use registers::PSW;
 use registers::new_pc;
 ghost use mathlib.Core.Path.{_≡_};
-ghost use Rattle.memory.specs.Memory.{memory};
+ghost use Rattle.memory.specs.Memory.{lent};
 ghost use Rattle.registers.specs.Registers.{registers};
 ghost use Rattle.acts.specs.Acts.{did, performOf};
 ghost use Rattle.acts.specs.Steady.{plainly, Keeps};
@@ -68,11 +68,13 @@ fn return_done(set: usize, psw: u32) -> How
 pub fn ret(
     base: u32,
     window: &mut [u8],
+    base2: u32,
+    window2: &mut [u8],
     d: &mut [u32; 16],
     a: &mut [u32; 16],
     core: &mut [u32; 10],
 ) -> How
-    ensures { λ r. ⌜ did (plainly r) (registers (now (d .exit)) (now (a .exit)) (now (core .exit))) (memory base (now (window .exit))) ≡ performOf (retOf (registers (now (d .entry)) (now (a .entry)) (now (core .entry)))) (registers (now (d .entry)) (now (a .entry)) (now (core .entry))) (memory base (now (window .entry))) ⌝ }
+    ensures { λ r. ⌜ did (plainly r) (registers (now (d .exit)) (now (a .exit)) (now (core .exit))) (lent base (now (window .exit)) base2 (now (window2 .exit))) ≡ performOf (retOf (registers (now (d .entry)) (now (a .entry)) (now (core .entry)))) (registers (now (d .entry)) (now (a .entry)) (now (core .entry))) (lent base (now (window .entry)) base2 (now (window2 .entry))) ⌝ }
     ensures { λ r. ⌜ Keeps r (registers (now (d .entry)) (now (a .entry)) (now (core .entry))) (registers (now (d .exit)) (now (a .exit)) (now (core .exit))) ⌝ }
 {
     if underflows(core[PSW]) {
@@ -83,7 +85,7 @@ pub fn ret(
         Previous::There => {
             let to = new_pc(a[11]);
             let set = fields::psw::protection_set(core[PSW]);
-            match restore(base, window, d, a, core, Half::Upper) {
+            match restore(base, window, base2, window2, d, a, core, Half::Upper) {
                 Returned::Outside => How::Stopped(Stop::Outside),
                 Returned::Done => {
                     core[PC] = to;
@@ -97,11 +99,13 @@ pub fn ret(
 pub fn rfe(
     base: u32,
     window: &mut [u8],
+    base2: u32,
+    window2: &mut [u8],
     d: &mut [u32; 16],
     a: &mut [u32; 16],
     core: &mut [u32; 10],
 ) -> How
-    ensures { λ r. ⌜ did (plainly r) (registers (now (d .exit)) (now (a .exit)) (now (core .exit))) (memory base (now (window .exit))) ≡ performOf (rfeOf (registers (now (d .entry)) (now (a .entry)) (now (core .entry)))) (registers (now (d .entry)) (now (a .entry)) (now (core .entry))) (memory base (now (window .entry))) ⌝ }
+    ensures { λ r. ⌜ did (plainly r) (registers (now (d .exit)) (now (a .exit)) (now (core .exit))) (lent base (now (window .exit)) base2 (now (window2 .exit))) ≡ performOf (rfeOf (registers (now (d .entry)) (now (a .entry)) (now (core .entry)))) (registers (now (d .entry)) (now (a .entry)) (now (core .entry))) (lent base (now (window .entry)) base2 (now (window2 .entry))) ⌝ }
     ensures { λ r. ⌜ Keeps r (registers (now (d .entry)) (now (a .entry)) (now (core .entry))) (registers (now (d .exit)) (now (a .exit)) (now (core .exit))) ⌝ }
 {
     match previous_context(core[PCXI], Half::Upper) {
@@ -116,7 +120,7 @@ pub fn rfe(
                 pcxi::interrupts(core[PCXI]),
                 pcxi::priority(core[PCXI]),
             );
-            match restore(base, window, d, a, core, Half::Upper) {
+            match restore(base, window, base2, window2, d, a, core, Half::Upper) {
                 Returned::Outside => How::Stopped(Stop::Outside),
                 Returned::Done => {
                     core[ICR] = icr;
@@ -131,17 +135,19 @@ pub fn rfe(
 pub fn rslcx(
     base: u32,
     window: &mut [u8],
+    base2: u32,
+    window2: &mut [u8],
     d: &mut [u32; 16],
     a: &mut [u32; 16],
     core: &mut [u32; 10],
     next: u32,
 ) -> How
-    ensures { λ r. ⌜ did (plainly r) (registers (now (d .exit)) (now (a .exit)) (now (core .exit))) (memory base (now (window .exit))) ≡ performOf (rslcxOf next (registers (now (d .entry)) (now (a .entry)) (now (core .entry)))) (registers (now (d .entry)) (now (a .entry)) (now (core .entry))) (memory base (now (window .entry))) ⌝ }
+    ensures { λ r. ⌜ did (plainly r) (registers (now (d .exit)) (now (a .exit)) (now (core .exit))) (lent base (now (window .exit)) base2 (now (window2 .exit))) ≡ performOf (rslcxOf next (registers (now (d .entry)) (now (a .entry)) (now (core .entry)))) (registers (now (d .entry)) (now (a .entry)) (now (core .entry))) (lent base (now (window .entry)) base2 (now (window2 .entry))) ⌝ }
     ensures { λ r. ⌜ Keeps r (registers (now (d .entry)) (now (a .entry)) (now (core .entry))) (registers (now (d .exit)) (now (a .exit)) (now (core .exit))) ⌝ }
 {
     match previous_context(core[PCXI], Half::Lower) {
         Previous::Traps(t) => How::Trap(t),
-        Previous::There => match restore(base, window, d, a, core, Half::Lower) {
+        Previous::There => match restore(base, window, base2, window2, d, a, core, Half::Lower) {
             Returned::Outside => How::Stopped(Stop::Outside),
             Returned::Done => {
                 core[PC] = next;

@@ -13,7 +13,7 @@ use registers::PC;
 use registers::PSW;
 use registers::new_pc;
 ghost use mathlib.Core.Path.{_≡_};
-ghost use Rattle.memory.specs.Memory.{memory};
+ghost use Rattle.memory.specs.Memory.{lent};
 ghost use Rattle.registers.specs.Registers.{registers};
 ghost use Rattle.acts.specs.Acts.{did, performOf};
 ghost use Rattle.acts.specs.Steady.{plainly, Keeps};
@@ -32,19 +32,21 @@ fn set_called(d: &mut [u32; 16], a: &mut [u32; 16], core: &mut [u32; 10], to: u3
 pub fn call(
     base: u32,
     window: &mut [u8],
+    base2: u32,
+    window2: &mut [u8],
     d: &mut [u32; 16],
     a: &mut [u32; 16],
     core: &mut [u32; 10],
     to: u32,
     next: u32,
 ) -> How
-    ensures { λ r. ⌜ did (plainly r) (registers (now (d .exit)) (now (a .exit)) (now (core .exit))) (memory base (now (window .exit))) ≡ performOf (callOf to next (registers (now (d .entry)) (now (a .entry)) (now (core .entry)))) (registers (now (d .entry)) (now (a .entry)) (now (core .entry))) (memory base (now (window .entry))) ⌝ }
+    ensures { λ r. ⌜ did (plainly r) (registers (now (d .exit)) (now (a .exit)) (now (core .exit))) (lent base (now (window .exit)) base2 (now (window2 .exit))) ≡ performOf (callOf to next (registers (now (d .entry)) (now (a .entry)) (now (core .entry)))) (registers (now (d .entry)) (now (a .entry)) (now (core .entry))) (lent base (now (window .entry)) base2 (now (window2 .entry))) ⌝ }
     ensures { λ r. ⌜ Keeps r (registers (now (d .entry)) (now (a .entry)) (now (core .entry))) (registers (now (d .exit)) (now (a .exit)) (now (core .exit))) ⌝ }
 {
     if overflows(core[PSW]) {
         return How::Trap(CDO);
     }
-    match save_upper(base, window, d, a, core) {
+    match save_upper(base, window, base2, window2, d, a, core) {
         Saved::Stops(s) => How::Stopped(s),
         Saved::Done => {
             set_called(d, a, core, to, next);
@@ -60,15 +62,17 @@ pub fn call(
 pub fn svlcx(
     base: u32,
     window: &mut [u8],
+    base2: u32,
+    window2: &mut [u8],
     d: &mut [u32; 16],
     a: &mut [u32; 16],
     core: &mut [u32; 10],
     next: u32,
 ) -> How
-    ensures { λ r. ⌜ did (plainly r) (registers (now (d .exit)) (now (a .exit)) (now (core .exit))) (memory base (now (window .exit))) ≡ performOf (svlcxOf next) (registers (now (d .entry)) (now (a .entry)) (now (core .entry))) (memory base (now (window .entry))) ⌝ }
+    ensures { λ r. ⌜ did (plainly r) (registers (now (d .exit)) (now (a .exit)) (now (core .exit))) (lent base (now (window .exit)) base2 (now (window2 .exit))) ≡ performOf (svlcxOf next) (registers (now (d .entry)) (now (a .entry)) (now (core .entry))) (lent base (now (window .entry)) base2 (now (window2 .entry))) ⌝ }
     ensures { λ r. ⌜ Keeps r (registers (now (d .entry)) (now (a .entry)) (now (core .entry))) (registers (now (d .exit)) (now (a .exit)) (now (core .exit))) ⌝ }
 {
-    match save_lower(base, window, d, a, core, next) {
+    match save_lower(base, window, base2, window2, d, a, core, next) {
         Saved::Stops(s) => How::Stopped(s),
         Saved::Done => {
             core[PC] = next;
@@ -92,19 +96,21 @@ fn set_priority(d: &mut [u32; 16], a: &mut [u32; 16], core: &mut [u32; 10], imm:
 pub fn bisr(
     base: u32,
     window: &mut [u8],
+    base2: u32,
+    window2: &mut [u8],
     d: &mut [u32; 16],
     a: &mut [u32; 16],
     core: &mut [u32; 10],
     imm: u32,
     next: u32,
 ) -> How
-    ensures { λ r. ⌜ did (plainly r) (registers (now (d .exit)) (now (a .exit)) (now (core .exit))) (memory base (now (window .exit))) ≡ performOf (bisrOf imm next (registers (now (d .entry)) (now (a .entry)) (now (core .entry)))) (registers (now (d .entry)) (now (a .entry)) (now (core .entry))) (memory base (now (window .entry))) ⌝ }
+    ensures { λ r. ⌜ did (plainly r) (registers (now (d .exit)) (now (a .exit)) (now (core .exit))) (lent base (now (window .exit)) base2 (now (window2 .exit))) ≡ performOf (bisrOf imm next (registers (now (d .entry)) (now (a .entry)) (now (core .entry)))) (registers (now (d .entry)) (now (a .entry)) (now (core .entry))) (lent base (now (window .entry)) base2 (now (window2 .entry))) ⌝ }
     ensures { λ r. ⌜ Keeps r (registers (now (d .entry)) (now (a .entry)) (now (core .entry))) (registers (now (d .exit)) (now (a .exit)) (now (core .exit))) ⌝ }
 {
     if !fields::psw::supervisor(core[PSW]) {
         return How::Trap(PRIV);
     }
-    match save_lower(base, window, d, a, core, next) {
+    match save_lower(base, window, base2, window2, d, a, core, next) {
         Saved::Stops(s) => How::Stopped(s),
         Saved::Done => {
             set_priority(d, a, core, imm, next);

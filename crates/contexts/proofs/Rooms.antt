@@ -1,11 +1,12 @@
--- The area for a save: which area it is, and that it lies in the window.
+-- The area for a save: which area it is, and that it lies in a window.
 -- Assumes nothing.
-use Prim.Native.Nat.{ℕ, _+_, _≤_}
+use Prim.Native.Nat.{ℕ}
 use native.Mathlib.Omega.{arith}
 use mathlib.Core.Path.{_≡_, refl, sym, ap, _∙_}
 use mathlib.Core.Bool.{Bool, true, false, cond}
 use lib.Dec.{eqb}
 use borrow.Author.Tests.{eqb-false, eq-eqb, ne-eqb}
+use Rattle.memory.specs.Memory.{Windows, Within}
 use Rattle.areas.specs.Link.{linkOf, addressOf}
 use Rattle.areas.specs.Place.{placed}
 use Rattle.areas.specs.declared.link.Link.{Link}
@@ -25,34 +26,34 @@ by-place (place.At x) at e = let z : x ≡ at = cc in rw z
 by-place place.Outside at e = absurd (never-room e)
 
 -- an area that is found: its link is not 0, and it lies at that place
-pub record Area (base len word at : ℕ) : Type 0 where
+pub record Area (w : Windows) (len word at : ℕ) : Type 0 where
   pub linked : linkOf word .0 ≡ 0 → ⊥
-  pub lies : placed base len (addressOf (linkOf word)) ≡ place.At at
+  pub lies : placed w len (addressOf (linkOf word)) ≡ place.At at
 
-pub room-at : (base len word at : ℕ) → roomAt base len word ≡ room.At at → Area base len word at
+pub room-at : (w : Windows) (len word at : ℕ) → roomAt w len word ≡ room.At at → Area w len word at
 unfolding roomAt
-room-at base len word at e = by (eqb (linkOf word .0) 0) refl e
+room-at w len word at e = by (eqb (linkOf word .0) 0) refl e
   where
-    by : (t : Bool) → eqb (linkOf word .0) 0 ≡ t → cond t (room.Stops NoArea) (roomBy (placed base len (addressOf (linkOf word)))) ≡ room.At at → Area base len word at
+    by : (t : Bool) → eqb (linkOf word .0) 0 ≡ t → cond t (room.Stops NoArea) (roomBy (placed w len (addressOf (linkOf word)))) ≡ room.At at → Area w len word at
     by true t f = absurd (never-room f)
-    by false t f = record { linked = eqb-false (linkOf word .0) 0 t; lies = by-place (placed base len (addressOf (linkOf word))) at f }
+    by false t f = record { linked = eqb-false (linkOf word .0) 0 t; lies = by-place (placed w len (addressOf (linkOf word))) at f }
 
-pub room-inside : (base len word at : ℕ) → roomAt base len word ≡ room.At at → at + 64 ≤ len
-room-inside base len word at e = placed-at base len (addressOf (linkOf word)) at (room-at base len word at e .lies) .inside
+pub room-inside : (w : Windows) (len word at : ℕ) → roomAt w len word ≡ room.At at → Within (w .split) len at 64
+room-inside w len word at e = placed-at w len (addressOf (linkOf word)) at (room-at w len word at e .lies)
 
 -- the cases of the search for it
-module _ (base len word : ℕ) (l : Link) (is : l ≡ linkOf word) where
-  pub room-none : l .0 ≡ 0 → room.Stops NoArea ≡ roomAt base len word
+module _ (w : Windows) (len word : ℕ) (l : Link) (is : l ≡ linkOf word) where
+  pub room-none : l .0 ≡ 0 → room.Stops NoArea ≡ roomAt w len word
   unfolding roomAt
   room-none z = rw (eq-eqb (linkOf word .0) 0 (rw is at z))
 
-  module _ (some : l .0 ≡ 0 → ⊥) (p : Place) (found : p ≡ placed base len (addressOf l)) where
-    by : roomBy p ≡ roomAt base len word
+  module _ (some : l .0 ≡ 0 → ⊥) (p : Place) (found : p ≡ placed w len (addressOf l)) where
+    by : roomBy p ≡ roomAt w len word
     unfolding roomAt
     by = let n : linkOf word .0 ≡ 0 → ⊥ = rw is at some in rw (ne-eqb (linkOf word .0) 0 n, found, is)
 
-    pub room-some : (at : ℕ) → p ≡ place.At at → room.At at ≡ roomAt base len word
+    pub room-some : (at : ℕ) → p ≡ place.At at → room.At at ≡ roomAt w len word
     room-some at e = ap roomBy (sym e) ∙ by
 
-    pub room-outside : p ≡ place.Outside → room.Stops Outside ≡ roomAt base len word
+    pub room-outside : p ≡ place.Outside → room.Stops Outside ≡ roomAt w len word
     room-outside e = ap roomBy (sym e) ∙ by

@@ -2,7 +2,7 @@
 use Prim.Native.Nat.{ℕ}
 use mathlib.Core.List.{List}
 use lib.Seq.{sets}
-use Rattle.memory.specs.Memory.{Memory, memory}
+use Rattle.memory.specs.Memory.{Windows, Memory, memory}
 use Rattle.memory.specs.Word.{wordAt, wordsAt, putWord}
 use Rattle.areas.specs.Link.{linkOf}
 use Rattle.areas.specs.Place.{placeOf}
@@ -45,12 +45,12 @@ pub record Returning : Type 0 where
 abbrev pub returning : Returned → Registers → Memory → Returning
 returning s r m = record { returned = s; registers = r; memory = m }
 
-abbrev pub loading : ℕ → Loaded → Returning
-loading base l = returning Done (l .registers) (memory base (l .bytes))
+abbrev pub loading : Windows → Loaded → Returning
+loading w l = returning Done (l .registers) (memory w (l .bytes))
 
 abbrev pub returnBy : Half → Registers → Memory → Place → Returning
 returnBy half r m place.Outside = returning Outside r m
-returnBy half r m (place.At at) = loading (m .base) (loadOf half at r (m .bytes))
+returnBy half r m (place.At at) = loading (m .windows) (loadOf half at r (m .bytes))
 
 -- a return to a half. An area outside the window leaves all as it was
 unfoldable pub returnOf : Half → Registers → Memory → Returning

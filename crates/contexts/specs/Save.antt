@@ -4,7 +4,7 @@ use mathlib.Core.Bool.{cond}
 use mathlib.Core.List.{List}
 use lib.ListN.{length, getD, set}
 use lib.Dec.{eqb}
-use Rattle.memory.specs.Memory.{Memory, memory}
+use Rattle.memory.specs.Memory.{Windows, Memory, memory}
 use Rattle.memory.specs.Word.{wordAt, putWords}
 use Rattle.areas.specs.Link.{linkOf, addressOf}
 use Rattle.areas.specs.Place.{placed}
@@ -24,12 +24,12 @@ abbrev pub roomBy : Place → Room
 roomBy (place.At at) = room.At at
 roomBy place.Outside = room.Stops Outside
 
--- the area that a link word names, for a save: 11 where the link is 0, 12 where the area lies outside the window
-unfoldable pub roomAt : ℕ → ℕ → ℕ → Room
-roomAt base len word = cond (eqb (linkOf word .0) 0) (room.Stops NoArea) (roomBy (placed base len (addressOf (linkOf word))))
+-- the area that a link word names, for a save: 11 where the link is 0, 12 where the area lies outside the windows
+unfoldable pub roomAt : Windows → ℕ → ℕ → Room
+roomAt w len word = cond (eqb (linkOf word .0) 0) (room.Stops NoArea) (roomBy (placed w len (addressOf (linkOf word))))
 
 abbrev pub roomOf : Memory → ℕ → Room
-roomOf m word = roomAt (m .base) (length (m .bytes)) word
+roomOf m word = roomAt (m .windows) (length (m .bytes)) word
 
 -- the core registers and the window's bytes after an area was taken
 pub record Taken : Type 0 where
@@ -55,13 +55,13 @@ pub record Saving : Type 0 where
 abbrev pub saving : Saved → List ℕ → Memory → Saving
 saving s core m = record { saved = s; core = core; memory = m }
 
-abbrev pub taking : Saved → ℕ → Taken → Saving
-taking s base t = saving s (t .core) (memory base (t .bytes))
+abbrev pub taking : Saved → Windows → Taken → Saving
+taking s w t = saving s (t .core) (memory w (t .bytes))
 
 -- the area taken is LCX's: an FCD entry follows, if there is an area for it too
 abbrev pub depletedBy : Half → List ℕ → ℕ → List ℕ → Memory → Room → Saving
 depletedBy half words at core m (room.Stops s) = saving (Stops s) core m
-depletedBy half words at core m (room.At second) = taking Depleted (m .base) (takeOf half words at core (m .bytes))
+depletedBy half words at core m (room.At second) = taking Depleted (m .windows) (takeOf half words at core (m .bytes))
 
 -- a save into the area at byte `at`
 unfoldable pub saveAtOf : Half → List ℕ → ℕ → List ℕ → Memory → Saving
@@ -70,7 +70,7 @@ saveAtOf half words at core m =
     let lcx = getD core LCX 0 in
     cond (eqb (linkOf fcx .0) (linkOf lcx .0))
     (depletedBy half words at core m (roomOf m (wordAt (m .bytes) at)))
-    (taking Done (m .base) (takeOf half words at core (m .bytes)))
+    (taking Done (m .windows) (takeOf half words at core (m .bytes)))
 
 abbrev pub saveBy : Half → List ℕ → List ℕ → Memory → Room → Saving
 saveBy half words core m (room.Stops s) = saving (Stops s) core m

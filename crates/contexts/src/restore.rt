@@ -6,37 +6,41 @@ use areas::link::Address;
 use areas::link::Place;
 use areas::link::link_of;
 use areas::link::locate;
-use memory::put_word;
 use memory::read_words;
+use memory::windows::put_word_in;
 use memory::word_at;
 use registers::FCX;
 use registers::PCXI;
 use registers::PSW;
 ghost use mathlib.Core.Path.{_≡_};
-ghost use Prim.Native.Nat.{_+_, _≤_};
+ghost use mathlib.Core.List.{_++_};
 ghost use lib.ListN.{length};
-ghost use Rattle.memory.specs.Memory.{memory};
+ghost use Rattle.memory.specs.Memory.{lent, Within};
 ghost use Rattle.registers.specs.Registers.{registers};
 ghost use Rattle.contexts.specs.Restore.{loaded, loadOf, returning, returnOf};
 
 pub enum Returned {
     Done,
-    // the area lies outside the window
+    // the area lies in neither window
     Outside,
 }
 
 // Loads the upper context of the area at byte `at`, and links the area to the free list.
 fn load_upper(
+    base: u32,
     window: &mut [u8],
+    base2: u32,
+    window2: &mut [u8],
     d: &mut [u32; 16],
     a: &mut [u32; 16],
     core: &mut [u32; 10],
     at: usize,
 )
-    requires { ⌜ at + 64 ≤ length (now window) ⌝ }
-    ensures { λ _. ⌜ loaded (registers (now (d .exit)) (now (a .exit)) (now (core .exit))) (now (window .exit)) ≡ loadOf Half.Upper at (registers (now (d .entry)) (now (a .entry)) (now (core .entry))) (now (window .entry)) ⌝ }
+    requires { ⌜ Within (length (now window)) (length (now window ++ now window2)) at 64 ⌝ }
+    ensures { λ _. ⌜ loaded (registers (now (d .exit)) (now (a .exit)) (now (core .exit))) (now (window .exit) ++ now (window2 .exit)) ≡ loadOf Half.Upper at (registers (now (d .entry)) (now (a .entry)) (now (core .entry))) (now (window .entry) ++ now (window2 .entry)) ⌝ }
+    ensures { λ _. ⌜ length (now (window .exit)) ≡ length (now (window .entry)) ⌝ }
 {
-    let bytes = area(window, at);
+    let bytes = area(Address(base), window, Address(base2), window2, link_of(core[PCXI]));
     // A10 to A15, D8 to D15
     read_words(bytes, 8, a, 10, 6);
     read_words(bytes, 32, d, 8, 8);
@@ -45,21 +49,25 @@ fn load_upper(
     core[PSW] = word_at(bytes, 4);
     core[PCXI] = word_at(bytes, 0);
     core[FCX] = link.0;
-    put_word(window, at, free);
+    put_word_in(window, window2, at, free);
 }
 
 // The same of the lower context; the saved PC is passed over.
 fn load_lower(
+    base: u32,
     window: &mut [u8],
+    base2: u32,
+    window2: &mut [u8],
     d: &mut [u32; 16],
     a: &mut [u32; 16],
     core: &mut [u32; 10],
     at: usize,
 )
-    requires { ⌜ at + 64 ≤ length (now window) ⌝ }
-    ensures { λ _. ⌜ loaded (registers (now (d .exit)) (now (a .exit)) (now (core .exit))) (now (window .exit)) ≡ loadOf Half.Lower at (registers (now (d .entry)) (now (a .entry)) (now (core .entry))) (now (window .entry)) ⌝ }
+    requires { ⌜ Within (length (now window)) (length (now window ++ now window2)) at 64 ⌝ }
+    ensures { λ _. ⌜ loaded (registers (now (d .exit)) (now (a .exit)) (now (core .exit))) (now (window .exit) ++ now (window2 .exit)) ≡ loadOf Half.Lower at (registers (now (d .entry)) (now (a .entry)) (now (core .entry))) (now (window .entry) ++ now (window2 .entry)) ⌝ }
+    ensures { λ _. ⌜ length (now (window .exit)) ≡ length (now (window .entry)) ⌝ }
 {
-    let bytes = area(window, at);
+    let bytes = area(Address(base), window, Address(base2), window2, link_of(core[PCXI]));
     // A2 to A7, D0 to D7
     read_words(bytes, 8, a, 2, 6);
     read_words(bytes, 32, d, 0, 8);
@@ -67,23 +75,27 @@ fn load_lower(
     let link = link_of(core[PCXI]);
     core[PCXI] = word_at(bytes, 0);
     core[FCX] = link.0;
-    put_word(window, at, free);
+    put_word_in(window, window2, at, free);
 }
 
 fn load(
+    base: u32,
     window: &mut [u8],
+    base2: u32,
+    window2: &mut [u8],
     d: &mut [u32; 16],
     a: &mut [u32; 16],
     core: &mut [u32; 10],
     at: usize,
     half: Half,
 )
-    requires { ⌜ at + 64 ≤ length (now window) ⌝ }
-    ensures { λ _. ⌜ loaded (registers (now (d .exit)) (now (a .exit)) (now (core .exit))) (now (window .exit)) ≡ loadOf half at (registers (now (d .entry)) (now (a .entry)) (now (core .entry))) (now (window .entry)) ⌝ }
+    requires { ⌜ Within (length (now window)) (length (now window ++ now window2)) at 64 ⌝ }
+    ensures { λ _. ⌜ loaded (registers (now (d .exit)) (now (a .exit)) (now (core .exit))) (now (window .exit) ++ now (window2 .exit)) ≡ loadOf half at (registers (now (d .entry)) (now (a .entry)) (now (core .entry))) (now (window .entry) ++ now (window2 .entry)) ⌝ }
+    ensures { λ _. ⌜ length (now (window .exit)) ≡ length (now (window .entry)) ⌝ }
 {
     match half {
-        Half::Upper => load_upper(window, d, a, core, at),
-        Half::Lower => load_lower(window, d, a, core, at),
+        Half::Upper => load_upper(base, window, base2, window2, d, a, core, at),
+        Half::Lower => load_lower(base, window, base2, window2, d, a, core, at),
     }
 }
 
@@ -91,17 +103,25 @@ fn load(
 pub fn restore(
     base: u32,
     window: &mut [u8],
+    base2: u32,
+    window2: &mut [u8],
     d: &mut [u32; 16],
     a: &mut [u32; 16],
     core: &mut [u32; 10],
     half: Half,
 ) -> Returned
-    ensures { λ r. ⌜ returning r (registers (now (d .exit)) (now (a .exit)) (now (core .exit))) (memory base (now (window .exit))) ≡ returnOf half (registers (now (d .entry)) (now (a .entry)) (now (core .entry))) (memory base (now (window .entry))) ⌝ }
+    ensures { λ r. ⌜ returning r (registers (now (d .exit)) (now (a .exit)) (now (core .exit))) (lent base (now (window .exit)) base2 (now (window2 .exit))) ≡ returnOf half (registers (now (d .entry)) (now (a .entry)) (now (core .entry))) (lent base (now (window .entry)) base2 (now (window2 .entry))) ⌝ }
 {
-    match locate(Address(base), window.len(), link_of(core[PCXI])) {
+    match locate(
+        Address(base),
+        window,
+        Address(base2),
+        window2,
+        link_of(core[PCXI]),
+    ) {
         Place::Outside => Returned::Outside,
         Place::At(at) => {
-            load(window, d, a, core, at, half);
+            load(base, window, base2, window2, d, a, core, at, half);
             Returned::Done
         }
     }

@@ -68,13 +68,13 @@ module _ (quiet : Type 0) {r : Registers} (w : Valid r) (i : Instruction) (o : D
   value-word StW = w .d .each (i .c)
   value-word StA = w .a .each (i .c)
 
-  reached-sound : (rs : List Range) (op : Store) (p : Reach) → reachOf (m .base) (length (m .bytes)) (r .core) rs right.Write false (sizeOf op) (alignmentOf op) (addressIn i (r .a)) ≡ p → ReachBytes p → ActSound quiet r m (storeBy op i r p)
+  reached-sound : (rs : List Range) (op : Store) (p : Reach) → reachOf (m .windows) (length (m .bytes)) (r .core) rs right.Write false (sizeOf op) (alignmentOf op) (addressIn i (r .a)) ≡ p → ReachBytes p → ActSound quiet r m (storeBy op i r p)
   reached-sound rs op (reach.Traps t) e h = (refl, h)
-  reached-sound rs op (reach.At at) e h = (onward quiet w {i = i} o (sound-start w), value-word op, reach-inside _ _ _ _ _ _ _ _ _ at e)
+  reached-sound rs op (reach.At at) e h = (onward quiet w {i = i} o (sound-start w), value-word op, reach-inside _ _ _ _ _ _ _ _ _ at e .inside)
 
   pub store-sound : (rs : List Range) (op : Store) → ActSound quiet r m (storeOf op i r rs m)
   unfolding storeOf
-  store-sound rs op = reached-sound rs op _ refl (reach-bytes (m .base) (length (m .bytes)) (r .core) rs right.Write false (sizeOf op) (alignmentOf op) (addressIn i (r .a)))
+  store-sound rs op = reached-sound rs op _ refl (reach-bytes (m .windows) (length (m .bytes)) (r .core) rs right.Write false (sizeOf op) (alignmentOf op) (addressIn i (r .a)))
 
   -- saves
   call-sound : (to : ℕ) → Word to → ActSound quiet r m (callOf to (i .next) r)

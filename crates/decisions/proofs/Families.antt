@@ -7,7 +7,7 @@ use mathlib.Core.Bool.{Bool, not, _||_}
 use mathlib.Core.List.{List}
 use lib.ListN.{length, getD}
 use lib.Dec.{eqb}
-use Rattle.memory.specs.Memory.{Memory}
+use Rattle.memory.specs.Memory.{Windows, Memory}
 use Rattle.fields.specs.Psw.{PSW·PRS, isUser0}
 use Rattle.fields.specs.Syscon.{SYSCON·PROTEN}
 use Rattle.bounds.proofs.Results.{compute-word, compute-psw}
@@ -142,22 +142,22 @@ abbrev pub ReachBytes : Reach → Type 0
 ReachBytes (At at) = Unit {0}
 ReachBytes (Traps t) = TrapBytes t
 
-module _ (base len : ℕ) (core : List ℕ) (rs : List Range) (right : Right) (guarded : Bool) (size alignment address : ℕ) where
+module _ (w : Windows) (len : ℕ) (core : List ℕ) (rs : List Range) (right : Right) (guarded : Bool) (size alignment address : ℕ) where
   placed-bytes : (p : Place) → ReachBytes (placedReach p)
   placed-bytes place.Outside = small (omega arith) (omega arith)
   placed-bytes (place.At at) = tt
 
-  aligned-bytes : ReachBytes (alignedReach base len guarded size alignment address)
+  aligned-bytes : ReachBytes (alignedReach w len guarded size alignment address)
   unfolding alignedReach
   aligned-bytes =
       either-has ReachBytes guarded (small (omega arith) (omega arith))
-      (either-has ReachBytes (eqb (address % alignment) 0) (placed-bytes (placedAt base len size (record { 0 = address }))) (small (omega arith) (omega arith)))
+      (either-has ReachBytes (eqb (address % alignment) 0) (placed-bytes (placedAt w len size (record { 0 = address }))) (small (omega arith) (omega arith)))
 
-  checked-bytes : (c : Check) → CheckBytes c → ReachBytes (checkedReach c (alignedReach base len guarded size alignment address))
+  checked-bytes : (c : Check) → CheckBytes c → ReachBytes (checkedReach c (alignedReach w len guarded size alignment address))
   checked-bytes (Fails t) h = h
   checked-bytes Passes h = aligned-bytes
 
-  pub reach-bytes : ReachBytes (reachOf base len core rs right guarded size alignment address)
+  pub reach-bytes : ReachBytes (reachOf w len core rs right guarded size alignment address)
   unfolding reachOf
   reach-bytes = checked-bytes (checkOf core rs right address) (check-bytes core rs right address)
 
@@ -179,5 +179,5 @@ module _ (quiet : Type 0) {r : Registers} (w : Valid r) (i : Instruction) (o : D
   load-sound rs op =
       let g = loadGuards op (psw r) (i .c) in
       let at = addressIn i (r .a) in
-      reached-sound op (reachOf (m .base) (length (m .bytes)) (r .core) rs right.Read g (sizeOf op) (alignmentOf op) at)
-      (reach-bytes (m .base) (length (m .bytes)) (r .core) rs right.Read g (sizeOf op) (alignmentOf op) at)
+      reached-sound op (reachOf (m .windows) (length (m .bytes)) (r .core) rs right.Read g (sizeOf op) (alignmentOf op) at)
+      (reach-bytes (m .windows) (length (m .bytes)) (r .core) rs right.Read g (sizeOf op) (alignmentOf op) at)

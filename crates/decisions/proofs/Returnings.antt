@@ -34,7 +34,7 @@ module _ (half : Half) (then : Registers → Registers) (r : Registers) (m : Mem
   pub data ReturningCase : MadeOf → Type 0 where
     outside : placeOf m (linkOf (pcxi r)) ≡ place.Outside → ReturningCase (made (Stopped stop.Outside) r m)
     returns : (at : ℕ) → placeOf m (linkOf (pcxi r)) ≡ place.At at
-        → ReturningCase (made (Made event.Instruction) (then (loadedAt half at r (m .bytes))) (memory (m .base) (putWord (m .bytes) at (fcx r))))
+        → ReturningCase (made (Made event.Instruction) (then (loadedAt half at r (m .bytes))) (memory (m .windows) (putWord (m .bytes) at (fcx r))))
 
   pub returning-case : ReturningCase (returningOf half then r m)
   unfolding returnOf loadOf

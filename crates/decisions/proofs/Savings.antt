@@ -8,7 +8,7 @@ use mathlib.Core.List.{List}
 use lib.ListN.{length}
 use lib.Dec.{eqb}
 use borrow.Author.Tests.{eqb-true, eqb-false}
-use Rattle.memory.specs.Memory.{Memory, memory}
+use Rattle.memory.specs.Memory.{Windows, Memory, memory}
 use Rattle.memory.specs.Word.{wordAt, putWords}
 use Rattle.memory.proofs.Words.{putWords-length}
 use Rattle.fields.specs.Pcxi.{pcxiOf}
@@ -38,9 +38,9 @@ abbrev pub afterSave : Half → ℕ → List ℕ → Registers → Registers
 afterSave half at bytes r = withHeads (pcxiOf (icr r) (ulOf half) (fcx r)) (linkOf (wordAt bytes at) .0) r
 
 -- a link word, and the link in it, name the same area
-room-link : (base len word : ℕ) → roomAt base len (linkOf word .0) ≡ roomAt base len word
+room-link : (w : Windows) (len word : ℕ) → roomAt w len (linkOf word .0) ≡ roomAt w len word
 unfolding roomAt
-room-link base len word = let e : word % 2 ^ 20 % 2 ^ 20 ≡ word % 2 ^ 20 = omega arith in rw e
+room-link w len word = let e : word % 2 ^ 20 % 2 ^ 20 ≡ word % 2 ^ 20 = omega arith in rw e
 
 module _ (e : Event) (half : Half) (saved-pc : ℕ) (then : Registers → Registers) (r : Registers) (m : Memory) where
   abbrev words : List ℕ
@@ -63,9 +63,9 @@ module _ (e : Event) (half : Half) (saved-pc : ℕ) (then : Registers → Regist
     lacks-second : (s : Stop) (at : ℕ) → roomOf m (fcx r) ≡ room.At at → linkOf (fcx r) .0 ≡ linkOf (lcx r) .0 → roomOf m (wordAt (m .bytes) at) ≡ room.Stops s
         → SavingCase (made (Stopped s) r m)
     saves : (at : ℕ) → roomOf m (fcx r) ≡ room.At at → (linkOf (fcx r) .0 ≡ linkOf (lcx r) .0 → ⊥)
-        → SavingCase (made (Made e) (reached at) (memory (m .base) (savedBytes at)))
+        → SavingCase (made (Made e) (reached at) (memory (m .windows) (savedBytes at)))
     depletes : (at second : ℕ) → roomOf m (fcx r) ≡ room.At at → linkOf (fcx r) .0 ≡ linkOf (lcx r) .0 → roomOf m (wordAt (m .bytes) at) ≡ room.At second
-        → SavingCase (made (Made (event.Trap FCD)) (fcdRegisters at second) (memory (m .base) (putWords (savedBytes at) second (upperOf (reached at)) 16)))
+        → SavingCase (made (Made (event.Trap FCD)) (fcdRegisters at second) (memory (m .windows) (putWords (savedBytes at) second (upperOf (reached at)) 16)))
 
   abbrev enteringOf : Saving → MadeOf
   enteringOf v = entering e then r (v .saved) (v .core) (v .memory)
@@ -75,12 +75,12 @@ module _ (e : Event) (half : Half) (saved-pc : ℕ) (then : Registers → Regist
     pub reached-fcx : (at : ℕ) → fcx (reached at) ≡ linkOf (wordAt (m .bytes) at) .0
     reached-fcx at = ap fcx (t .blind r w _ _) ∙ head-fcx (then r) (t .valid r w) _ _
 
-    reached-room : (at second : ℕ) → roomOf m (wordAt (m .bytes) at) ≡ room.At second → roomOf (memory (m .base) (savedBytes at)) (fcx (reached at)) ≡ room.At second
+    reached-room : (at second : ℕ) → roomOf m (wordAt (m .bytes) at) ≡ room.At second → roomOf (memory (m .windows) (savedBytes at)) (fcx (reached at)) ≡ room.At second
     reached-room at second h =
-        rw (reached-fcx at, putWords-length (m .bytes) at words 16) (room-link (m .base) (length (m .bytes)) (wordAt (m .bytes) at) ∙ h)
+        rw (reached-fcx at, putWords-length (m .bytes) at words 16) (room-link (m .windows) (length (m .bytes)) (wordAt (m .bytes) at) ∙ h)
 
     fcd-case : (at second : ℕ) → roomOf m (fcx r) ≡ room.At at → linkOf (fcx r) .0 ≡ linkOf (lcx r) .0 → roomOf m (wordAt (m .bytes) at) ≡ room.At second
-        → SavingCase (fcdOf (reached at) (memory (m .base) (savedBytes at)))
+        → SavingCase (fcdOf (reached at) (memory (m .windows) (savedBytes at)))
     unfolding fcdOf takeOf
     fcd-case at second h g k = rw (reached-room at second k) (depletes at second h g k)
 
@@ -89,7 +89,7 @@ module _ (e : Event) (half : Half) (saved-pc : ℕ) (then : Registers → Regist
     at-case at h = by (eqb (linkOf (fcx r) .0) (linkOf (lcx r) .0)) refl (roomOf m (wordAt (m .bytes) at)) refl
       where
         by : (b : Bool) → eqb (linkOf (fcx r) .0) (linkOf (lcx r) .0) ≡ b → (x : Room) → roomOf m (wordAt (m .bytes) at) ≡ x
-            → SavingCase (enteringOf (cond b (depletedBy half words at (r .core) m x) (taking saved.Done (m .base) (takeOf half words at (r .core) (m .bytes)))))
+            → SavingCase (enteringOf (cond b (depletedBy half words at (r .core) m x) (taking saved.Done (m .windows) (takeOf half words at (r .core) (m .bytes)))))
         by true g (room.Stops s) k = lacks-second s at h (eqb-true _ _ g) k
         by true g (room.At second) k = fcd-case at second h (eqb-true _ _ g) k
         by false g x k = saves at h (eqb-false _ _ g)

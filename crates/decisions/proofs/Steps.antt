@@ -35,7 +35,7 @@ pub never-made : {e : Event} {s : Stop} → Made e ≡ Stopped s → ⊥
 never-made h = let z : _≡_ {A = ℕ} 0 1 = cc in omega arith
 
 pub record Kept (r : Registers) (m : Memory) (x : MadeOf) : Type 0 where
-  pub base : x .memory .base ≡ m .base
+  pub base : x .memory .windows ≡ m .windows
   pub size : length (x .memory .bytes) ≡ length (m .bytes)
   pub valid : Valid (x .registers)
   pub bytes : Bytes (x .memory .bytes)

@@ -16,23 +16,30 @@ use registers::Registers;
 use series::start;
 ghost use mathlib.Core.Path.{_≡_};
 ghost use lib.ListN.{length};
-ghost use Rattle.memory.specs.Memory.{memory};
+ghost use Rattle.memory.specs.Memory.{lent};
 ghost use Rattle.deqbaryn.specs.Host.{startAnswer, StartTells, stepStored, runStored, called, stepCall, StepTells, StepHolds, runCall, RunTells, RunHolds, UnmadeKeeps};
 ghost use Rattle.deqbaryn.specs.Calls.{AcceptedFollows};
 
 // Whether the start is accepted, with PC, FCX and PCXI of the record.
 #[no_mangle]
-pub extern "C" fn deqbaryn_start(core: &[u8], base: u32, window: &[u8], image: &[u8]) -> u64
-    ensures { λ r. ⌜ r ≡ startAnswer (now (core .entry)) (memory base (now (window .entry))) (now (image .entry)) ⌝ }
-    ensures { λ r. ⌜ StartTells (now (core .entry)) (memory base (now (window .entry))) (now (image .entry)) r ⌝ }
-    ensures { λ r. ⌜ AcceptedFollows (now (core .entry)) (memory base (now (window .entry))) r ⌝ }
-    ensures unchanged { λ _. ⌜ (now (core .exit) ≡ now (core .entry)) × (now (window .exit) ≡ now (window .entry)) × (now (image .exit) ≡ now (image .entry)) ⌝ }
+pub extern "C" fn deqbaryn_start<'a>(
+    core: &[u8],
+    base: u32,
+    window: &'a [u8],
+    base2: u32,
+    window2: &'a [u8],
+    image: &[u8],
+) -> u64
+    ensures { λ r. ⌜ r ≡ startAnswer (now (core .entry)) (lent base (now (window .entry)) base2 (now (window2 .entry))) (now (image .entry)) ⌝ }
+    ensures { λ r. ⌜ StartTells (now (core .entry)) (lent base (now (window .entry)) base2 (now (window2 .entry))) (now (image .entry)) r ⌝ }
+    ensures { λ r. ⌜ AcceptedFollows (now (core .entry)) (lent base (now (window .entry)) base2 (now (window2 .entry))) r ⌝ }
+    ensures unchanged { λ _. ⌜ (now (core .exit) ≡ now (core .entry)) × (now (window .exit) ≡ now (window .entry)) × (now (window2 .exit) ≡ now (window2 .entry)) × (now (image .exit) ≡ now (image .entry)) ⌝ }
 {
     if core.len() != 616 {
         return wrong_length();
     }
     let r = read_registers(core);
-    verdict_answer(start(Address(base), window, image, r))
+    verdict_answer(start(Address(base), window, Address(base2), window2, image, r))
 }
 
 // A refused or stopped step leaves the record as it was.
@@ -60,10 +67,10 @@ fn store_run(core: &mut [u8], outcome: Outcome, registers: Registers, requests: 
 }
 
 #[no_mangle]
-pub extern "C" fn deqbaryn_step(core: &mut [u8], base: u32, window: &mut [u8], image: &[u8]) -> u64
-    ensures { λ r. ⌜ called r (now (core .exit)) (memory base (now (window .exit))) ≡ stepCall (now (core .entry)) (memory base (now (window .entry))) (now (image .entry)) ⌝ }
-    ensures { λ _. ⌜ StepTells (now (core .entry)) (memory base (now (window .entry))) (now (image .entry)) ⌝ }
-    ensures { λ _. ⌜ StepHolds (now (core .entry)) (memory base (now (window .entry))) (now (image .entry)) (now (core .exit)) ⌝ }
+pub extern "C" fn deqbaryn_step(core: &mut [u8], base: u32, window: &mut [u8], base2: u32, window2: &mut [u8], image: &[u8]) -> u64
+    ensures { λ r. ⌜ called r (now (core .exit)) (lent base (now (window .exit)) base2 (now (window2 .exit))) ≡ stepCall (now (core .entry)) (lent base (now (window .entry)) base2 (now (window2 .entry))) (now (image .entry)) ⌝ }
+    ensures { λ _. ⌜ StepTells (now (core .entry)) (lent base (now (window .entry)) base2 (now (window2 .entry))) (now (image .entry)) ⌝ }
+    ensures { λ _. ⌜ StepHolds (now (core .entry)) (lent base (now (window .entry)) base2 (now (window2 .entry))) (now (image .entry)) (now (core .exit)) ⌝ }
 {
     if core.len() != 616 {
         return wrong_length();
@@ -71,7 +78,7 @@ pub extern "C" fn deqbaryn_step(core: &mut [u8], base: u32, window: &mut [u8], i
     let r = read_registers(core);
     let xs = read_requests(core);
     let rs = read_ranges(core);
-    let s = step(Address(base), window, image, r, xs, rs);
+    let s = step(Address(base), window, Address(base2), window2, image, r, xs, rs);
     let outcome = s.outcome;
     let after = s.registers;
     let requests = s.requests;
@@ -85,13 +92,15 @@ pub extern "C" fn deqbaryn_run(
     core: &mut [u8],
     base: u32,
     window: &mut [u8],
+    base2: u32,
+    window2: &mut [u8],
     image: &[u8],
     n: u32,
 ) -> u64
-    ensures { λ r. ⌜ called r (now (core .exit)) (memory base (now (window .exit))) ≡ runCall n (now (core .entry)) (memory base (now (window .entry))) (now (image .entry)) ⌝ }
-    ensures { λ _. ⌜ RunTells n (now (core .entry)) (memory base (now (window .entry))) (now (image .entry)) ⌝ }
-    ensures { λ _. ⌜ RunHolds n (now (core .entry)) (memory base (now (window .entry))) (now (image .entry)) (now (core .exit)) ⌝ }
-    ensures { λ _. ⌜ UnmadeKeeps n (now (core .entry)) (memory base (now (window .entry))) (now (image .entry)) (now (core .exit)) (memory base (now (window .exit))) ⌝ }
+    ensures { λ r. ⌜ called r (now (core .exit)) (lent base (now (window .exit)) base2 (now (window2 .exit))) ≡ runCall n (now (core .entry)) (lent base (now (window .entry)) base2 (now (window2 .entry))) (now (image .entry)) ⌝ }
+    ensures { λ _. ⌜ RunTells n (now (core .entry)) (lent base (now (window .entry)) base2 (now (window2 .entry))) (now (image .entry)) ⌝ }
+    ensures { λ _. ⌜ RunHolds n (now (core .entry)) (lent base (now (window .entry)) base2 (now (window2 .entry))) (now (image .entry)) (now (core .exit)) ⌝ }
+    ensures { λ _. ⌜ UnmadeKeeps n (now (core .entry)) (lent base (now (window .entry)) base2 (now (window2 .entry))) (now (image .entry)) (now (core .exit)) (lent base (now (window .exit)) base2 (now (window2 .exit))) ⌝ }
 {
     if core.len() != 616 {
         return wrong_length();
@@ -99,7 +108,7 @@ pub extern "C" fn deqbaryn_run(
     let r = read_registers(core);
     let xs = read_requests(core);
     let rs = read_ranges(core);
-    let v = run(Address(base), window, image, r, xs, rs, n);
+    let v = run(Address(base), window, Address(base2), window2, image, r, xs, rs, n);
     let outcome = v.outcome;
     let after = v.registers;
     let requests = v.requests;

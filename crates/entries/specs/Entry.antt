@@ -65,7 +65,7 @@ fcdBy r m (room.Stops s) = made (Stopped s) r m
 fcdBy r m (room.At at) =
     let t = takeOf Upper (upperOf r) at (r .core) (m .bytes) in
     let q = withCores (t .core) r in
-    made (Made (event.Trap FCD)) (trapEntry FCD (pc q) q) (memory (m .base) (t .bytes))
+    made (Made (event.Trap FCD)) (trapEntry FCD (pc q) q) (memory (m .windows) (t .bytes))
 
 unfoldable pub fcdOf : Registers → Memory → MadeOf
 fcdOf r m = fcdBy r m (roomOf m (fcx r))

@@ -16,7 +16,7 @@ use events::trap::Trap;
 use registers::FCX;
 use registers::PC;
 ghost use mathlib.Core.Path.{_≡_};
-ghost use Rattle.memory.specs.Memory.{memory};
+ghost use Rattle.memory.specs.Memory.{lent};
 ghost use Rattle.registers.specs.Registers.{registers};
 ghost use Rattle.entries.specs.Entry.{made, fcdOf, causeEvent, causeEntry, entryOf, trapOf, interruptOf};
 
@@ -24,17 +24,19 @@ ghost use Rattle.entries.specs.Entry.{made, fcdOf, causeEvent, causeEntr
 pub fn enter_fcd(
     base: u32,
     window: &mut [u8],
+    base2: u32,
+    window2: &mut [u8],
     d: &mut [u32; 16],
     a: &mut [u32; 16],
     core: &mut [u32; 10],
 ) -> Ending
-    ensures { λ r. ⌜ made r (registers (now (d .exit)) (now (a .exit)) (now (core .exit))) (memory base (now (window .exit))) ≡ fcdOf (registers (now (d .entry)) (now (a .entry)) (now (core .entry))) (memory base (now (window .entry))) ⌝ }
+    ensures { λ r. ⌜ made r (registers (now (d .exit)) (now (a .exit)) (now (core .exit))) (lent base (now (window .exit)) base2 (now (window2 .exit))) ≡ fcdOf (registers (now (d .entry)) (now (a .entry)) (now (core .entry))) (lent base (now (window .entry)) base2 (now (window2 .entry))) ⌝ }
 {
-    match find(base, window.len(), core[FCX]) {
+    match find(base, window, base2, window2, core[FCX]) {
         Room::Stops(s) => Ending::Stopped(s),
         Room::At(at) => {
             let words = upper(d, a, core);
-            take(window, core, at, Half::Upper, words);
+            take(base, window, base2, window2, core, at, Half::Upper, words);
             let pc = core[PC];
             enter_trap(d, a, core, FCD, pc);
             Ending::Made(Event::Trap(FCD))
@@ -72,14 +74,16 @@ fn set_entry(d: &mut [u32; 16], a: &mut [u32; 16], core: &mut [u32; 10], cause: 
 fn enter(
     base: u32,
     window: &mut [u8],
+    base2: u32,
+    window2: &mut [u8],
     d: &mut [u32; 16],
     a: &mut [u32; 16],
     core: &mut [u32; 10],
     cause: Cause,
 ) -> Ending
-    ensures { λ r. ⌜ made r (registers (now (d .exit)) (now (a .exit)) (now (core .exit))) (memory base (now (window .exit))) ≡ entryOf (causeEvent cause) (causeEntry cause) (registers (now (d .entry)) (now (a .entry)) (now (core .entry))) (memory base (now (window .entry))) ⌝ }
+    ensures { λ r. ⌜ made r (registers (now (d .exit)) (now (a .exit)) (now (core .exit))) (lent base (now (window .exit)) base2 (now (window2 .exit))) ≡ entryOf (causeEvent cause) (causeEntry cause) (registers (now (d .entry)) (now (a .entry)) (now (core .entry))) (lent base (now (window .entry)) base2 (now (window2 .entry))) ⌝ }
 {
-    match save_upper(base, window, d, a, core) {
+    match save_upper(base, window, base2, window2, d, a, core) {
         Saved::Stops(s) => Ending::Stopped(s),
         Saved::Done => {
             set_entry(d, a, core, cause);
@@ -87,7 +91,7 @@ fn enter(
         }
         Saved::Depleted => {
             set_entry(d, a, core, cause);
-            enter_fcd(base, window, d, a, core)
+            enter_fcd(base, window, base2, window2, d, a, core)
         }
     }
 }
@@ -96,28 +100,32 @@ fn enter(
 pub fn trap(
     base: u32,
     window: &mut [u8],
+    base2: u32,
+    window2: &mut [u8],
     d: &mut [u32; 16],
     a: &mut [u32; 16],
     core: &mut [u32; 10],
     t: Trap,
     back: u32,
 ) -> Ending
-    ensures { λ r. ⌜ made r (registers (now (d .exit)) (now (a .exit)) (now (core .exit))) (memory base (now (window .exit))) ≡ trapOf t back (registers (now (d .entry)) (now (a .entry)) (now (core .entry))) (memory base (now (window .entry))) ⌝ }
+    ensures { λ r. ⌜ made r (registers (now (d .exit)) (now (a .exit)) (now (core .exit))) (lent base (now (window .exit)) base2 (now (window2 .exit))) ≡ trapOf t back (registers (now (d .entry)) (now (a .entry)) (now (core .entry))) (lent base (now (window .entry)) base2 (now (window2 .entry))) ⌝ }
 {
-    enter(base, window, d, a, core, Cause::Trap(t, back))
+    enter(base, window, base2, window2, d, a, core, Cause::Trap(t, back))
 }
 
 // An interrupt from a source, with its priority number.
 pub fn interrupt(
     base: u32,
     window: &mut [u8],
+    base2: u32,
+    window2: &mut [u8],
     d: &mut [u32; 16],
     a: &mut [u32; 16],
     core: &mut [u32; 10],
     source: u8,
     level: u8,
 ) -> Ending
-    ensures { λ r. ⌜ made r (registers (now (d .exit)) (now (a .exit)) (now (core .exit))) (memory base (now (window .exit))) ≡ interruptOf source level (registers (now (d .entry)) (now (a .entry)) (now (core .entry))) (memory base (now (window .entry))) ⌝ }
+    ensures { λ r. ⌜ made r (registers (now (d .exit)) (now (a .exit)) (now (core .exit))) (lent base (now (window .exit)) base2 (now (window2 .exit))) ≡ interruptOf source level (registers (now (d .entry)) (now (a .entry)) (now (core .entry))) (lent base (now (window .entry)) base2 (now (window2 .entry))) ⌝ }
 {
-    enter(base, window, d, a, core, Cause::Interrupt(source, level))
+    enter(base, window, base2, window2, d, a, core, Cause::Interrupt(source, level))
 }

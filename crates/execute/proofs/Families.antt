@@ -90,7 +90,7 @@ module _ (i : Instruction) (r : Registers) where
 
     pub plain-load : (op : Load) → PlainEnded r (loadOf op i r rs m)
     unfolding loadOf
-    plain-load op = reached op (reachOf (m .base) (length (m .bytes)) (r .core) rs right.Read (loadGuards op (psw r) (i .c)) (loads.sizeOf op) (loads.alignmentOf op) (addressIn i (r .a)))
+    plain-load op = reached op (reachOf (m .windows) (length (m .bytes)) (r .core) rs right.Read (loadGuards op (psw r) (i .c)) (loads.sizeOf op) (loads.alignmentOf op) (addressIn i (r .a)))
 
     stored : (op : Store) (p : Reach) → PlainAct (storeBy op i r p) r m
     stored op (Traps t) = plain-trap t r
@@ -98,7 +98,7 @@ module _ (i : Instruction) (r : Registers) where
 
     plain-store : (op : Store) → PlainAct (storeOf op i r rs m) r m
     unfolding storeOf
-    plain-store op = stored op (reachOf (m .base) (length (m .bytes)) (r .core) rs right.Write false (stores.sizeOf op) (stores.alignmentOf op) (addressIn i (r .a)))
+    plain-store op = stored op (reachOf (m .windows) (length (m .bytes)) (r .core) rs right.Write false (stores.sizeOf op) (stores.alignmentOf op) (addressIn i (r .a)))
 
     module _ (op : Store) {h : How} {q : Registers} {n : Memory} (is : did h q n ≡ performOf (storeOf op i r rs m) r m) where
       pub store-did : did (plainly h) q n ≡ performOf (storeOf op i r rs m) r m

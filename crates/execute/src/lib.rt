@@ -17,7 +17,7 @@ use operations::Operation;
 use registers::PC;
 use system::instructions::execute_system;
 ghost use mathlib.Core.Path.{_≡_};
-ghost use Rattle.memory.specs.Memory.{memory};
+ghost use Rattle.memory.specs.Memory.{lent};
 ghost use Rattle.registers.specs.Registers.{registers};
 ghost use Rattle.protection.specs.Range.{rangesIn};
 ghost use Rattle.image.specs.Fetch.{FieldsHold};
@@ -56,6 +56,8 @@ pub fn steady(x: Executed) -> bool
 fn perform(
     base: u32,
     window: &mut [u8],
+    base2: u32,
+    window2: &mut [u8],
     d: &mut [u32; 16],
     a: &mut [u32; 16],
     core: &mut [u32; 10],
@@ -63,7 +65,7 @@ fn perform(
     i: Instruction,
 ) -> How
     requires { ⌜ FieldsHold i ⌝ }
-    ensures { λ r. ⌜ did (plainly r) (registers (now (d .exit)) (now (a .exit)) (now (core .exit))) (memory base (now (window .exit))) ≡ performOf (actOf i (registers (now (d .entry)) (now (a .entry)) (now (core .entry))) (rangesIn (now (ranges .entry))) (memory base (now (window .entry)))) (registers (now (d .entry)) (now (a .entry)) (now (core .entry))) (memory base (now (window .entry))) ⌝ }
+    ensures { λ r. ⌜ did (plainly r) (registers (now (d .exit)) (now (a .exit)) (now (core .exit))) (lent base (now (window .exit)) base2 (now (window2 .exit))) ≡ performOf (actOf i (registers (now (d .entry)) (now (a .entry)) (now (core .entry))) (rangesIn (now (ranges .entry))) (lent base (now (window .entry)) base2 (now (window2 .entry)))) (registers (now (d .entry)) (now (a .entry)) (now (core .entry))) (lent base (now (window .entry)) base2 (now (window2 .entry))) ⌝ }
     ensures { λ r. ⌜ Keeps r (registers (now (d .entry)) (now (a .entry)) (now (core .entry))) (registers (now (d .exit)) (now (a .exit)) (now (core .exit))) ⌝ }
 {
     let op = i.op;
@@ -77,10 +79,21 @@ fn perform(
             How::Done
         }
         Operation::Move(x) => execute_move(d, a, core, x, i),
-        Operation::Load(x) => execute_load(base, window, d, a, core, ranges, x, i),
-        Operation::Store(x) => execute_store(base, window, d, a, core, ranges, x, i),
+        Operation::Load(x) => execute_load(base, window, base2, window2, d, a, core, ranges, x, i),
+        Operation::Store(x) => execute_store(
+            base,
+            window,
+            base2,
+            window2,
+            d,
+            a,
+            core,
+            ranges,
+            x,
+            i,
+        ),
         Operation::Jump(x) => execute_jump(d, a, core, x, i),
-        Operation::Context(x) => execute_context(base, window, d, a, core, x, i),
+        Operation::Context(x) => execute_context(base, window, base2, window2, d, a, core, x, i),
         Operation::System(x) => execute_system(d, a, core, x, i),
     }
 }
@@ -89,23 +102,25 @@ fn perform(
 fn finish(
     base: u32,
     window: &mut [u8],
+    base2: u32,
+    window2: &mut [u8],
     d: &mut [u32; 16],
     a: &mut [u32; 16],
     core: &mut [u32; 10],
     how: How,
     next: u32,
 ) -> Ending
-    ensures { λ r. ⌜ made r (registers (now (d .exit)) (now (a .exit)) (now (core .exit))) (memory base (now (window .exit))) ≡ finishOf next (plainly how) (registers (now (d .entry)) (now (a .entry)) (now (core .entry))) (memory base (now (window .entry))) ⌝ }
+    ensures { λ r. ⌜ made r (registers (now (d .exit)) (now (a .exit)) (now (core .exit))) (lent base (now (window .exit)) base2 (now (window2 .exit))) ≡ finishOf next (plainly how) (registers (now (d .entry)) (now (a .entry)) (now (core .entry))) (lent base (now (window .entry)) base2 (now (window2 .entry))) ⌝ }
 {
     match how {
         How::Done => Ending::Made(Event::Instruction),
         How::Switched => Ending::Made(Event::Instruction),
-        How::Depleted => passed_on(enter_fcd(base, window, d, a, core)),
+        How::Depleted => passed_on(enter_fcd(base, window, base2, window2, d, a, core)),
         How::Trap(t) => {
             let pc = core[PC];
-            passed_on(trap(base, window, d, a, core, t, pc))
+            passed_on(trap(base, window, base2, window2, d, a, core, t, pc))
         }
-        How::TrapAfter(t) => passed_on(trap(base, window, d, a, core, t, next)),
+        How::TrapAfter(t) => passed_on(trap(base, window, base2, window2, d, a, core, t, next)),
         How::Stopped(s) => Ending::Stopped(s),
     }
 }
@@ -128,6 +143,8 @@ fn is_done(how: How) -> bool
 pub fn execute_instruction(
     base: u32,
     window: &mut [u8],
+    base2: u32,
+    window2: &mut [u8],
     d: &mut [u32; 16],
     a: &mut [u32; 16],
     core: &mut [u32; 10],
@@ -135,12 +152,12 @@ pub fn execute_instruction(
     i: Instruction,
 ) -> Executed
     requires { ⌜ FieldsHold i ⌝ }
-    ensures { λ r. ⌜ made (endingOf r) (registers (now (d .exit)) (now (a .exit)) (now (core .exit))) (memory base (now (window .exit))) ≡ executeOf i (registers (now (d .entry)) (now (a .entry)) (now (core .entry))) (rangesIn (now (ranges .entry))) (memory base (now (window .entry))) ⌝ }
+    ensures { λ r. ⌜ made (endingOf r) (registers (now (d .exit)) (now (a .exit)) (now (core .exit))) (lent base (now (window .exit)) base2 (now (window2 .exit))) ≡ executeOf i (registers (now (d .entry)) (now (a .entry)) (now (core .entry))) (rangesIn (now (ranges .entry))) (lent base (now (window .entry)) base2 (now (window2 .entry))) ⌝ }
     ensures { λ r. ⌜ Kept r (registers (now (d .entry)) (now (a .entry)) (now (core .entry))) (registers (now (d .exit)) (now (a .exit)) (now (core .exit))) ⌝ }
 {
-    let how = perform(base, window, d, a, core, ranges, i);
+    let how = perform(base, window, base2, window2, d, a, core, ranges, i);
     if is_done(how) {
         return Executed::Steady;
     }
-    Executed::Ended(finish(base, window, d, a, core, how, i.next))
+    Executed::Ended(finish(base, window, base2, window2, d, a, core, how, i.next))
 }

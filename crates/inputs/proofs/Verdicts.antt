@@ -30,11 +30,11 @@ use Rattle.inputs.proofs.Single.{window-of, of-window, no-window, of-no
 
 -- ---- rules 1 to 4
 module _ (m : Memory) (img : List ℕ) (pc : ℕ) where
-  window-refused : windowHolds (m .base) (length (m .bytes)) ≡ false → stepVerdict m img pc ≡ Refused Window
+  window-refused : windowHolds (m .windows) (length (m .bytes)) ≡ false → stepVerdict m img pc ≡ Refused Window
   unfolding stepVerdict
   window-refused e = rw e
 
-  window-passed : windowHolds (m .base) (length (m .bytes)) ≡ true → stepVerdict m img pc ≡ andThen (imageVerdict img) (pcVerdict pc)
+  window-passed : windowHolds (m .windows) (length (m .bytes)) ≡ true → stepVerdict m img pc ≡ andThen (imageVerdict img) (pcVerdict pc)
   unfolding stepVerdict
   window-passed e = rw e
 
@@ -52,9 +52,9 @@ module _ (m : Memory) (img : List ℕ) (pc : ℕ) where
 
   -- the verdict is what the rules say
   pub step-says : StepSays m img pc (stepVerdict m img pc)
-  step-says = go (windowHolds (m .base) (length (m .bytes))) refl
+  step-says = go (windowHolds (m .windows) (length (m .bytes))) refl
     where
-      go : (t : Bool) → windowHolds (m .base) (length (m .bytes)) ≡ t → StepSays m img pc (stepVerdict m img pc)
+      go : (t : Bool) → windowHolds (m .windows) (length (m .bytes)) ≡ t → StepSays m img pc (stepVerdict m img pc)
       go true e = rw (window-passed e) (image-verdict (window-of m e) (imageOf img) (image-says img))
       go false e = rw (window-refused e) (no-window m e)
 

@@ -21,7 +21,7 @@ windowHolds base len =
     eqb (base % 64) 0 && eqb (len % 64) 0 && leb 1 len && leb len 0x1_0000 && leb (base / 2 ^ 28) 13 && leb (base % 2 ^ 28 + len) (2 ^ 28)
 
 abbrev pub windowVerdict : Memory → Verdict
-windowVerdict m = cond (windowHolds (m .base) (length (m .bytes))) Accepted (Refused Window)
+windowVerdict m = cond (windowHolds (m .windows) (length (m .bytes))) Accepted (Refused Window)
 
 -- 2 and 3
 abbrev pub imageSaid : ImageCheck → Verdict

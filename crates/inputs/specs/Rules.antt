@@ -21,7 +21,7 @@ pub record WindowRight (base len : ℕ) : Type 0 where
   pub one-segment : base % 2 ^ 28 + len ≤ 2 ^ 28
 
 abbrev pub WindowOf : Memory → Type 0
-WindowOf m = WindowRight (m .base) (length (m .bytes))
+WindowOf m = WindowRight (m .windows) (length (m .bytes))
 
 -- rule 4
 abbrev pub Even : ℕ → Type 0

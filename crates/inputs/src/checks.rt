@@ -6,11 +6,12 @@ use areas::link::Address;
 use image::records::ImageCheck;
 use lists::ListEnd;
 ghost use mathlib.Core.Path.{_≡_};
+ghost use mathlib.Core.List.{_++_};
 ghost use Prim.Native.Nat.{_≤_};
 ghost use lib.ListN.{length};
-ghost use Rattle.memory.specs.Memory.{memory};
+ghost use Rattle.memory.specs.Memory.{lent};
 ghost use Rattle.lists.specs.Walk.{listsOf};
-ghost use Rattle.inputs.specs.Checks.{windowHolds, windowVerdict, imageVerdict, pcVerdict, listsSaid, listsVerdict, stepVerdict, startVerdict};
+ghost use Rattle.inputs.specs.Checks.{windowHolds, secondHolds, apartHolds, windowsVerdict, windowVerdict, imageVerdict, pcVerdict, listsSaid, listsVerdict, stepVerdict, startVerdict};
 ghost use Rattle.inputs.specs.Rules.{WindowSays, ContentsSay, PcSays, ListsSay, StepSays, StartSays};
 ghost use Rattle.words.specs.Exactly.{Exactly};
 
@@ -36,15 +37,52 @@ fn window_holds(base: Address, len: usize) -> bool
     (base.0 % 0x1000_0000) as usize + len <= 0x1000_0000
 }
 
-// Rule 1.
-pub fn check_window(base: Address, window: &[u8]) -> Verdict
-    ensures { λ r. ⌜ (r ≡ windowVerdict (memory (base .0) (now (window .entry)))) × Exactly (WindowSays (memory (base .0) (now (window .entry)))) r ⌝ }
-    ensures unchanged { λ _. ⌜ now (window .exit) ≡ now (window .entry) ⌝ }
+// Rule 1 of the second window, which may have no bytes.
+fn second_holds(base: Address, len: usize) -> bool
+    ensures { λ r. ⌜ r ≡ secondHolds (base .0) len ⌝ }
 {
-    if window_holds(base, window.len()) {
-        return Verdict::Accepted;
+    if len == 0 {
+        return true;
+    }
+    window_holds(base, len)
+}
+
+// Rule 13: the windows do not overlap.
+fn apart_holds(base: Address, len: usize, base2: Address, len2: usize) -> bool
+    requires { ⌜ (len ≤ 65536) × (len2 ≤ 65536) ⌝ }
+    ensures { λ r. ⌜ r ≡ apartHolds (base .0) len (base2 .0) len2 ⌝ }
+{
+    if len2 == 0 {
+        return true;
+    }
+    if base.0 as usize + len <= base2.0 as usize {
+        return true;
+    }
+    base2.0 as usize + len2 <= base.0 as usize
+}
+
+// Rule 1 on each window in turn, then rule 13.
+fn try_windows(base: Address, len: usize, base2: Address, len2: usize) -> Verdict
+    ensures { λ r. ⌜ r ≡ windowsVerdict (base .0) len (base2 .0) len2 ⌝ }
+{
+    if window_holds(base, len) {
+        if second_holds(base2, len2) {
+            if apart_holds(base, len, base2, len2) {
+                return Verdict::Accepted;
+            }
+            return Verdict::Refused(Refusal::Overlap);
+        }
+        return Verdict::Refused(Refusal::Window);
     }
     Verdict::Refused(Refusal::Window)
+}
+
+// Rules 1 and 13.
+pub fn check_windows(base: Address, window: &[u8], base2: Address, window2: &[u8]) -> Verdict
+    ensures { λ r. ⌜ (r ≡ windowVerdict (lent (base .0) (now (window .entry)) (base2 .0) (now (window2 .entry)))) × Exactly (WindowSays (lent (base .0) (now (window .entry)) (base2 .0) (now (window2 .entry)))) r ⌝ }
+    ensures unchanged { λ _. ⌜ (now (window .exit) ≡ now (window .entry)) × (now (window2 .exit) ≡ now (window2 .entry)) ⌝ }
+{
+    try_windows(base, window.len(), base2, window2.len())
 }
 
 // Rules 2 and 3.
@@ -69,34 +107,55 @@ pub fn check_pc(pc: u32) -> Verdict
     Verdict::Refused(Refusal::OddPc)
 }
 
-// Rules 5 and 6, of a window that rule 1 accepts: the free list from FCX, then the used one from PCXI.
-pub fn check_lists(base: Address, window: &[u8], fcx: u32, pcxi: u32) -> Verdict
-    ensures { λ r. ⌜ (r ≡ listsVerdict (memory (base .0) (now (window .entry))) fcx pcxi) × Exactly (ListsSay (memory (base .0) (now (window .entry))) fcx pcxi) r ⌝ }
-    ensures unchanged { λ _. ⌜ now (window .exit) ≡ now (window .entry) ⌝ }
+// Rules 5 and 6, of windows that rules 1 and 13 accept: the free list from FCX, then the used one from PCXI.
+pub fn check_lists<'a>(
+    base: Address,
+    window: &'a [u8],
+    base2: Address,
+    window2: &'a [u8],
+    fcx: u32,
+    pcxi: u32,
+) -> Verdict
+    ensures { λ r. ⌜ (r ≡ listsVerdict (lent (base .0) (now (window .entry)) (base2 .0) (now (window2 .entry))) fcx pcxi) × Exactly (ListsSay (lent (base .0) (now (window .entry)) (base2 .0) (now (window2 .entry))) fcx pcxi) r ⌝ }
+    ensures unchanged { λ _. ⌜ (now (window .exit) ≡ now (window .entry)) × (now (window2 .exit) ≡ now (window2 .entry)) ⌝ }
 {
-    match check_window(base, window) {
+    match check_windows(base, window, base2, window2) {
         Verdict::Refused(r) => Verdict::Refused(r),
-        Verdict::Accepted => try_lists(base, window, fcx, pcxi),
+        Verdict::Accepted => try_lists(base, window, base2, window2, fcx, pcxi),
     }
 }
 
-fn try_lists(base: Address, window: &[u8], fcx: u32, pcxi: u32) -> Verdict
-    requires { ⌜ length (now window) ≤ 65536 ⌝ }
-    ensures { λ r. ⌜ r ≡ listsSaid (listsOf (memory (base .0) (now (window .entry))) fcx pcxi) ⌝ }
+fn try_lists<'a>(
+    base: Address,
+    window: &'a [u8],
+    base2: Address,
+    window2: &'a [u8],
+    fcx: u32,
+    pcxi: u32,
+) -> Verdict
+    requires { ⌜ length (now window ++ now window2) ≤ 0x2_0000 ⌝ }
+    ensures { λ r. ⌜ r ≡ listsSaid (listsOf (lent (base .0) (now (window .entry)) (base2 .0) (now (window2 .entry))) fcx pcxi) ⌝ }
 {
-    match lists::check(window, base, fcx, pcxi) {
+    match lists::check(base, window, base2, window2, fcx, pcxi) {
         ListEnd::Whole => Verdict::Accepted,
         ListEnd::LinkOutside => Verdict::Refused(Refusal::LinkOutside),
         ListEnd::MetAgain => Verdict::Refused(Refusal::MetAgain),
     }
 }
 
-// Rules 1 to 4: what a step, or a run from a given state, is tried with.
-pub fn try_step(base: Address, window: &[u8], image: &[u8], pc: u32) -> Verdict
-    ensures { λ r. ⌜ (r ≡ stepVerdict (memory (base .0) (now (window .entry))) (now (image .entry)) pc) × Exactly (StepSays (memory (base .0) (now (window .entry))) (now (image .entry)) pc) r ⌝ }
-    ensures unchanged { λ _. ⌜ (now (window .exit) ≡ now (window .entry)) × (now (image .exit) ≡ now (image .entry)) ⌝ }
+// Rules 1, 13 and 2 to 4: what a step, or a run from a given state, is tried with.
+pub fn try_step(
+    base: Address,
+    window: &[u8],
+    base2: Address,
+    window2: &[u8],
+    image: &[u8],
+    pc: u32,
+) -> Verdict
+    ensures { λ r. ⌜ (r ≡ stepVerdict (lent (base .0) (now (window .entry)) (base2 .0) (now (window2 .entry))) (now (image .entry)) pc) × Exactly (StepSays (lent (base .0) (now (window .entry)) (base2 .0) (now (window2 .entry))) (now (image .entry)) pc) r ⌝ }
+    ensures unchanged { λ _. ⌜ (now (window .exit) ≡ now (window .entry)) × (now (window2 .exit) ≡ now (window2 .entry)) × (now (image .exit) ≡ now (image .entry)) ⌝ }
 {
-    match check_window(base, window) {
+    match check_windows(base, window, base2, window2) {
         Verdict::Refused(r) => Verdict::Refused(r),
         Verdict::Accepted => match check_image(image) {
             Verdict::Refused(r) => Verdict::Refused(r),
@@ -105,20 +164,22 @@ pub fn try_step(base: Address, window: &[u8], image: &[u8], pc: u32) -> Verdict
     }
 }
 
-// All six rules: what a start is tried with.
-pub fn try_start(
+// All seven rules: what a start is tried with.
+pub fn try_start<'a>(
     base: Address,
-    window: &[u8],
+    window: &'a [u8],
+    base2: Address,
+    window2: &'a [u8],
     image: &[u8],
     pc: u32,
     fcx: u32,
     pcxi: u32,
 ) -> Verdict
-    ensures { λ r. ⌜ (r ≡ startVerdict (memory (base .0) (now (window .entry))) (now (image .entry)) pc fcx pcxi) × Exactly (StartSays (memory (base .0) (now (window .entry))) (now (image .entry)) pc fcx pcxi) r ⌝ }
-    ensures unchanged { λ _. ⌜ (now (window .exit) ≡ now (window .entry)) × (now (image .exit) ≡ now (image .entry)) ⌝ }
+    ensures { λ r. ⌜ (r ≡ startVerdict (lent (base .0) (now (window .entry)) (base2 .0) (now (window2 .entry))) (now (image .entry)) pc fcx pcxi) × Exactly (StartSays (lent (base .0) (now (window .entry)) (base2 .0) (now (window2 .entry))) (now (image .entry)) pc fcx pcxi) r ⌝ }
+    ensures unchanged { λ _. ⌜ (now (window .exit) ≡ now (window .entry)) × (now (window2 .exit) ≡ now (window2 .entry)) × (now (image .exit) ≡ now (image .entry)) ⌝ }
 {
-    match try_step(base, window, image, pc) {
+    match try_step(base, window, base2, window2, image, pc) {
         Verdict::Refused(r) => Verdict::Refused(r),
-        Verdict::Accepted => try_lists(base, window, fcx, pcxi),
+        Verdict::Accepted => try_lists(base, window, base2, window2, fcx, pcxi),
     }
 }

@@ -6,6 +6,7 @@ ghost use Rattle.inputs.specs.Verdict.{numberOf, faultOf};
 // The rule at fault: the entry of a table, counted from 1 (0 for the count), the index of a record over all bodies.
 pub enum Refusal {
     Window,
+    Overlap,
     Table(u32),
     Record(u32),
     OddPc,
@@ -24,6 +25,7 @@ pub fn number(r: Refusal) -> u32
 {
     match r {
         Refusal::Window => 1,
+        Refusal::Overlap => 13,
         Refusal::Table(_) => 2,
         Refusal::Record(_) => 3,
         Refusal::OddPc => 4,
@@ -38,6 +40,7 @@ pub fn fault(r: Refusal) -> u32
 {
     match r {
         Refusal::Window => 0,
+        Refusal::Overlap => 0,
         Refusal::Table(entry) => entry,
         Refusal::Record(index) => index,
         Refusal::OddPc => 0,

@@ -8,7 +8,7 @@ use inputs::verdict::Verdict;
 use inputs::verdict::fault;
 use inputs::verdict::number;
 ghost use mathlib.Core.Path.{_≡_};
-ghost use Rattle.memory.specs.Memory.{memory};
+ghost use Rattle.memory.specs.Memory.{lent};
 ghost use Rattle.image.specs.Records.{ImageHolds};
 ghost use Rattle.words.specs.Exactly.{Tells};
 ghost use Rattle.inputs.specs.Checks.{imageVerdict, listsVerdict, stepVerdict, startVerdict};
@@ -33,31 +33,33 @@ pub extern "C" fn deqbaryn_check_image(image: &[u8]) -> u64
 }
 
 #[no_mangle]
-pub extern "C" fn deqbaryn_check_lists(base: u32, window: &[u8], fcx: u32, pcxi: u32) -> u64
-    ensures { λ r. ⌜ (r ≡ verdictOf (listsVerdict (memory base (now (window .entry))) fcx pcxi)) × Tells verdictOf (ListsSay (memory base (now (window .entry))) fcx pcxi) r ⌝ }
+pub extern "C" fn deqbaryn_check_lists<'a>(base: u32, window: &'a [u8], base2: u32, window2: &'a [u8], fcx: u32, pcxi: u32) -> u64
+    ensures { λ r. ⌜ (r ≡ verdictOf (listsVerdict (lent base (now (window .entry)) base2 (now (window2 .entry))) fcx pcxi)) × Tells verdictOf (ListsSay (lent base (now (window .entry)) base2 (now (window2 .entry))) fcx pcxi) r ⌝ }
 {
-    packed(checks::check_lists(Address(base), window, fcx, pcxi))
+    packed(checks::check_lists(Address(base), window, Address(base2), window2, fcx, pcxi))
 }
 
 #[no_mangle]
-pub extern "C" fn deqbaryn_try_step(base: u32, window: &[u8], image: &[u8], pc: u32) -> u64
-    ensures { λ r. ⌜ (r ≡ verdictOf (stepVerdict (memory base (now (window .entry))) (now (image .entry)) pc)) × Tells verdictOf (StepSays (memory base (now (window .entry))) (now (image .entry)) pc) r ⌝ }
+pub extern "C" fn deqbaryn_try_step(base: u32, window: &[u8], base2: u32, window2: &[u8], image: &[u8], pc: u32) -> u64
+    ensures { λ r. ⌜ (r ≡ verdictOf (stepVerdict (lent base (now (window .entry)) base2 (now (window2 .entry))) (now (image .entry)) pc)) × Tells verdictOf (StepSays (lent base (now (window .entry)) base2 (now (window2 .entry))) (now (image .entry)) pc) r ⌝ }
 {
-    packed(checks::try_step(Address(base), window, image, pc))
+    packed(checks::try_step(Address(base), window, Address(base2), window2, image, pc))
 }
 
 #[no_mangle]
-pub extern "C" fn deqbaryn_try_start(
+pub extern "C" fn deqbaryn_try_start<'a>(
     base: u32,
-    window: &[u8],
+    window: &'a [u8],
+    base2: u32,
+    window2: &'a [u8],
     image: &[u8],
     pc: u32,
     fcx: u32,
     pcxi: u32,
 ) -> u64
-    ensures { λ r. ⌜ (r ≡ verdictOf (startVerdict (memory base (now (window .entry))) (now (image .entry)) pc fcx pcxi)) × Tells verdictOf (StartSays (memory base (now (window .entry))) (now (image .entry)) pc fcx pcxi) r ⌝ }
+    ensures { λ r. ⌜ (r ≡ verdictOf (startVerdict (lent base (now (window .entry)) base2 (now (window2 .entry))) (now (image .entry)) pc fcx pcxi)) × Tells verdictOf (StartSays (lent base (now (window .entry)) base2 (now (window2 .entry))) (now (image .entry)) pc fcx pcxi) r ⌝ }
 {
-    packed(checks::try_start(Address(base), window, image, pc, fcx, pcxi))
+    packed(checks::try_start(Address(base), window, Address(base2), window2, image, pc, fcx, pcxi))
 }
 
 // The record at pc of an accepted image: 1, c, a, b from the lowest byte on, and the immediate in the high word. 0 where no record begins there, or the image is refused.

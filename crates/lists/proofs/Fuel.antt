@@ -1,4 +1,4 @@
--- The walk does not run out: it marks an area at each turn, and 1,025 links are more than there are areas.
+-- The walk does not run out: it marks an area at each turn, and 2,049 links are more than there are areas.
 -- Assumes nothing.
 use mathlib.Core.Path.{_≡_, refl, sym, ap, _∙_}
 use mathlib.Core.Bool.{Bool, true, false}
@@ -62,32 +62,32 @@ unmet-set (true ∷ s) (suc k) h e = unmet-set s k (omega arith) e
 unmet-set (false ∷ s) (suc k) h e = ap suc (unmet-set s k (omega arith) e)
 
 -- the place of an area among the marks
-pub mark-in : (m : Memory) (l : Link) (met : List Bool) (at : ℕ) → length (m .bytes) ≤ 65536 → length met ≡ 1024 → placeOf m l ≡ At at → at / 64 < length met
-mark-in m l met at hm hs p = omega (arith, placed-at (m .base) (length (m .bytes)) (addressOf l) at p .inside)
+pub mark-in : (m : Memory) (l : Link) (met : List Bool) (at : ℕ) → length (m .bytes) ≤ 131072 → length met ≡ 2048 → placeOf m l ≡ At at → at / 64 < length met
+mark-in m l met at hm hs p = omega (arith, placed-at (m .windows) (length (m .bytes)) (addressOf l) at p .inside)
 
-pub walk-enough : (f : ℕ) (m : Memory) (l : Link) (met : List Bool) → length (m .bytes) ≤ 65536 → length met ≡ 1024 → unmet met < f
+pub walk-enough : (f : ℕ) (m : Memory) (l : Link) (met : List Bool) → length (m .bytes) ≤ 131072 → length met ≡ 2048 → unmet met < f
     → walkOf (suc f) m l met ≡ walkOf f m l met
 walk-enough zero m l met hm hs hu = absurd (omega arith)
 walk-enough (suc f) m l met hm hs hu = go (turn m l met) (walk-enough f m)
   where
-    go : Turn m l met → ((k : Link) (s : List Bool) → length (m .bytes) ≤ 65536 → length s ≡ 1024 → unmet s < f → walkOf (suc f) m k s ≡ walkOf f m k s)
+    go : Turn m l met → ((k : Link) (s : List Bool) → length (m .bytes) ≤ 131072 → length s ≡ 2048 → unmet s < f → walkOf (suc f) m k s ≡ walkOf f m k s)
         → walkOf (suc (suc f)) m l met ≡ walkOf (suc f) m l met
     go (ends e) r = walk-whole (suc f) m l met e ∙ sym (walk-whole f m l met e)
     go (outside z p) r = walk-outside (suc f) m l met z p ∙ sym (walk-outside f m l met z p)
     go (again at z p t) r = walk-again (suc f) m l met z at p t ∙ sym (walk-again f m l met z at p t)
     go (onward at z p t) r =
         let u = unmet-set met (at / 64) (mark-in m l met at hm hs p) t in
-        let s : length (set met (at / 64) true) ≡ 1024 = simp length-set hs in
+        let s : length (set met (at / 64) true) ≡ 2048 = simp length-set hs in
         walk-on (suc f) m l met z at p t ∙ r (linkOf (wordAt (m .bytes) at)) (set met (at / 64) true) hm s (omega arith) ∙ sym (walk-on f m l met z at p t)
 
 -- a turn that goes on, with as many links left as before
-pub walk-next : (m : Memory) (l : Link) (met : List Bool) (at : ℕ) → length (m .bytes) ≤ 65536 → length met ≡ 1024 → (l .0 ≡ 0 → ⊥) → placeOf m l ≡ At at → getD met (at / 64) false ≡ false
-    → walkOf 1025 m l met ≡ walkOf 1025 m (linkOf (wordAt (m .bytes) at)) (set met (at / 64) true)
+pub walk-next : (m : Memory) (l : Link) (met : List Bool) (at : ℕ) → length (m .bytes) ≤ 131072 → length met ≡ 2048 → (l .0 ≡ 0 → ⊥) → placeOf m l ≡ At at → getD met (at / 64) false ≡ false
+    → walkOf 2049 m l met ≡ walkOf 2049 m (linkOf (wordAt (m .bytes) at)) (set met (at / 64) true)
 walk-next m l met at hm hs z p t =
     let u = unmet-set met (at / 64) (mark-in m l met at hm hs p) t in
-    let s : length (set met (at / 64) true) ≡ 1024 = simp length-set hs in
-    let v : unmet (set met (at / 64) true) < 1024 = omega (arith, unmet-le met) in
-    walk-on 1024 m l met z at p t ∙ sym (walk-enough 1024 m (linkOf (wordAt (m .bytes) at)) (set met (at / 64) true) hm s v)
+    let s : length (set met (at / 64) true) ≡ 2048 = simp length-set hs in
+    let v : unmet (set met (at / 64) true) < 2048 = omega (arith, unmet-le met) in
+    walk-on 2048 m l met z at p t ∙ sym (walk-enough 2048 m (linkOf (wordAt (m .bytes) at)) (set met (at / 64) true) hm s v)
 
 -- the marks are as many as before
 pub walk-length : (n : ℕ) (m : Memory) (l : Link) (met : List Bool) → length (walkOf n m l met .met) ≡ length met

@@ -28,7 +28,7 @@ use Rattle.lists.proofs.Fuel.{Turn, ends, outside, again, onward, turn,
 
 -- ---- the marks say which links were met: `c` counts how often
 pub record Marked (m : Memory) (met : List Bool) (c : Link → ℕ) : Type 0 where
-  pub many : length met ≡ 1024
+  pub many : length met ≡ 2048
   pub yes-met : (l : Link) (at : ℕ) → l .0 < 2 ^ 20 → placeOf m l ≡ At at → getD met (at / 64) false ≡ true → 1 ≤ c l
   pub not-met : (l : Link) (at : ℕ) → l .0 < 2 ^ 20 → placeOf m l ≡ At at → getD met (at / 64) false ≡ false → c l ≡ 0
 
@@ -36,20 +36,20 @@ marked-same : {m : Memory} {met : List Bool} {c d : Link → ℕ} → ((l : Link
 marked-same h k =
     record { many = k .many; yes-met = λ l at b p e. rw (← h l) (k .yes-met l at b p e); not-met = λ l at b p e. rw (← h l) (k .not-met l at b p e) }
 
-marked-none : (m : Memory) → length (m .bytes) ≤ 65536 → Marked m (replicate 1024 false) (λ l. 0)
+marked-none : (m : Memory) → length (m .bytes) ≤ 131072 → Marked m (replicate 2048 false) (λ l. 0)
 marked-none m small =
     record {
       many = refl;
-      yes-met = λ l at b p e. absurd (never (sym e ∙ getD-replicate 1024 (at / 64) false false (mark-in m l (replicate 1024 false) at small refl p)));
+      yes-met = λ l at b p e. absurd (never (sym e ∙ getD-replicate 2048 (at / 64) false false (mark-in m l (replicate 2048 false) at small refl p)));
       not-met = λ l at b p e. refl;
     }
 
 -- the area of k is marked
-module _ (m : Memory) (small : length (m .bytes) ≤ 65536) (met : List Bool) (c : Link → ℕ) (g : Marked m met c) (k : Link) (bk : k .0 < 2 ^ 20) (kt : ℕ) (pk : placeOf m k ≡ At kt) where
+module _ (m : Memory) (small : length (m .bytes) ≤ 131072) (met : List Bool) (c : Link → ℕ) (g : Marked m met c) (k : Link) (bk : k .0 < 2 ^ 20) (kt : ℕ) (pk : placeOf m k ≡ At kt) where
   other : (l : Link) (at : ℕ) → l .0 < 2 ^ 20 → placeOf m l ≡ At at → (l .0 ≡ k .0 → ⊥) → getD (set met (kt / 64) true) (at / 64) false ≡ getD met (at / 64) false
   other l at b p d =
       getD-set-other met (kt / 64) (at / 64) true false
-      (λ e. ⊎-elim (λ x. omega arith) (λ x. omega arith) (apart (m .base) (length (m .bytes)) l k at kt b bk d p pk))
+      (λ e. ⊎-elim (λ x. omega arith) (λ x. omega arith) (apart (m .windows) (length (m .bytes)) l k at kt b bk d p pk))
 
   same-place : (l : Link) (at : ℕ) → l ≡ k → placeOf m l ≡ At at → kt ≡ at
   same-place l at e p = let q : placeOf m k ≡ At at = rw (← e) p in cc
@@ -110,13 +110,13 @@ goes-here : (m : Memory) (c : Link → ℕ) (l : Link) (met : List Bool) (e : Li
 goes-here m c l met e o g y =
     record { met = []; last = l; leads = refl; first = λ k. omega (arith, o k); why = y; marks = marked-same (λ k. omega arith) g }
 
-goes : (n : ℕ) (m : Memory) (c : Link → ℕ) (l : Link) (met : List Bool) → length (m .bytes) ≤ 65536 → l .0 < 2 ^ 20 → ((k : Link) → c k ≤ 1) → Marked m met c → unmet met < n → Goes m c l (walkOf n m l met)
+goes : (n : ℕ) (m : Memory) (c : Link → ℕ) (l : Link) (met : List Bool) → length (m .bytes) ≤ 131072 → l .0 < 2 ^ 20 → ((k : Link) → c k ≤ 1) → Marked m met c → unmet met < n → Goes m c l (walkOf n m l met)
 unfolding why-at
 goes zero m c l met small b o g u = absurd (omega arith)
 goes (suc n) m c l met small b o g u = go (turn m l met) (goes n m)
   where
     go : Turn m l met
-        → ((d : Link → ℕ) (k : Link) (s : List Bool) → length (m .bytes) ≤ 65536 → k .0 < 2 ^ 20 → ((x : Link) → d x ≤ 1) → Marked m s d → unmet s < n → Goes m d k (walkOf n m k s))
+        → ((d : Link → ℕ) (k : Link) (s : List Bool) → length (m .bytes) ≤ 131072 → k .0 < 2 ^ 20 → ((x : Link) → d x ≤ 1) → Marked m s d → unmet s < n → Goes m d k (walkOf n m k s))
         → Goes m c l (walkOf (suc n) m l met)
     go (ends e) r = rw (walk-whole n m l met e) (goes-here m c l met Whole o g e)
     go (outside z p) r = rw (walk-outside n m l met z p) (goes-here m c l met LinkOutside o g (z, p))
@@ -211,23 +211,23 @@ module _ (m : Memory) (before after : List Link) (alike : before ≡ after) (l :
       (of-why m after (h .met) (h .last) f (h .why))
 
 -- ---- the two lists
-module _ (m : Memory) (small : length (m .bytes) ≤ 65536) (fcx pcxi : ℕ) where
+module _ (m : Memory) (small : length (m .bytes) ≤ 131072) (fcx pcxi : ℕ) where
   free-walk : Walked
-  free-walk = walkOf 1025 m (linkOf fcx) (replicate 1024 false)
+  free-walk = walkOf 2049 m (linkOf fcx) (replicate 2048 false)
 
   free-goes : Goes m (λ k. 0) (linkOf fcx) free-walk
   unfolding free-walk
   free-goes =
-      goes 1025 m (λ k. 0) (linkOf fcx) (replicate 1024 false) small (link-lt fcx) (λ k. omega arith) (marked-none m small) (omega (arith, unmet-le (replicate 1024 false)))
+      goes 2049 m (λ k. 0) (linkOf fcx) (replicate 2048 false) small (link-lt fcx) (λ k. omega arith) (marked-none m small) (omega (arith, unmet-le (replicate 2048 false)))
 
-  used-goes : (ls : List Link) → ((k : Link) → count k ls ≤ 1) → Marked m (free-walk .met) (λ k. count k ls) → Goes m (λ k. count k ls) (linkOf pcxi) (walkOf 1025 m (linkOf pcxi) (free-walk .met))
-  used-goes ls o g = goes 1025 m (λ k. count k ls) (linkOf pcxi) (free-walk .met) small (link-lt pcxi) o g (omega (arith, unmet-le (free-walk .met), g .many))
+  used-goes : (ls : List Link) → ((k : Link) → count k ls ≤ 1) → Marked m (free-walk .met) (λ k. count k ls) → Goes m (λ k. count k ls) (linkOf pcxi) (walkOf 2049 m (linkOf pcxi) (free-walk .met))
+  used-goes ls o g = goes 2049 m (λ k. count k ls) (linkOf pcxi) (free-walk .met) small (link-lt pcxi) o g (omega (arith, unmet-le (free-walk .met), g .many))
 
   lists-by : (e : ListEnd) → free-walk .end ≡ e → Goes m (λ k. 0) (linkOf fcx) free-walk → ListsCome m fcx pcxi (thenUsed m pcxi e (free-walk .met))
   unfolding comes-of
   lists-by Whole q g =
       at-used (comes-of m [] (linkOf fcx) free-walk Whole q g)
-      (comes-of m (g .met) (linkOf pcxi) (walkOf 1025 m (linkOf pcxi) (free-walk .met)) (thenUsed m pcxi Whole (free-walk .met)) refl
+      (comes-of m (g .met) (linkOf pcxi) (walkOf 2049 m (linkOf pcxi) (free-walk .met)) (thenUsed m pcxi Whole (free-walk .met)) refl
       (used-goes (g .met) (λ k. omega (arith, g .first k)) (marked-same (λ k. omega arith) (g .marks))))
   lists-by LinkOutside q g = at-free (λ z. (let n : _≡_ {A = ℕ} 0 1 = cc in omega arith)) (comes-of m [] (linkOf fcx) free-walk LinkOutside q g)
   lists-by MetAgain q g = at-free (λ z. (let n : _≡_ {A = ℕ} 0 1 = cc in omega arith)) (comes-of m [] (linkOf fcx) free-walk MetAgain q g)

@@ -1,4 +1,4 @@
-// The lists of context save areas and their check: each link lies in the window, and no area is met a second time.
+// The lists of context save areas and their check: each link lies in one of the two windows, and no area is met a second time.
 
 use areas::area::next_link;
 use areas::link::Address;
@@ -7,9 +7,10 @@ use areas::link::Place;
 use areas::link::link_of;
 use areas::link::locate;
 ghost use mathlib.Core.Path.{_≡_};
+ghost use mathlib.Core.List.{_++_};
 ghost use Prim.Native.Nat.{_≤_};
 ghost use lib.ListN.{length};
-ghost use Rattle.memory.specs.Memory.{memory};
+ghost use Rattle.memory.specs.Memory.{lent};
 ghost use Rattle.lists.specs.Walk.{walkOf, walked, listsOf};
 ghost use Rattle.lists.specs.Lists.{ListsCome};
 ghost use Rattle.words.specs.Exactly.{Exactly};
@@ -18,20 +19,27 @@ ghost use Rattle.words.specs.Exactly.{Exactly};
 pub enum ListEnd {
     // link 0 ends it
     Whole,
-    // a link lies outside the window: 5
+    // a link lies in neither window: 5
     LinkOutside,
     // an area is met a second time: 6
     MetAgain,
 }
 
-// Follows the list from the link on. `met` says of each area of the window whether it was met, here or before.
-fn walk(window: &[u8], base: Address, head: Link, met: &mut [bool; 1024]) -> ListEnd
-    requires { ⌜ (length (now window) ≤ 65536) × (length (now met) ≡ 1024) ⌝ }
-    ensures { λ r. ⌜ walked r (now (met .exit)) ≡ walkOf 1025 (memory (base .0) (now (window .entry))) head (now (met .entry)) ⌝ }
+// Follows the list from the link on. `met` says of each area of the two windows whether it was met, here or before.
+fn walk<'a>(
+    base: Address,
+    window: &'a [u8],
+    base2: Address,
+    window2: &'a [u8],
+    head: Link,
+    met: &mut [bool; 2048],
+) -> ListEnd
+    requires { ⌜ (length (now window ++ now window2) ≤ 131072) × (length (now met) ≡ 2048) ⌝ }
+    ensures { λ r. ⌜ walked r (now (met .exit)) ≡ walkOf 2049 (lent (base .0) (now (window .entry)) (base2 .0) (now (window2 .entry))) head (now (met .entry)) ⌝ }
 {
     let mut n = head.0;
     while n != 0 {
-        let Place::At(at) = locate(base, window.len(), Link(n)) else {
+        let Place::At(at) = locate(base, window, base2, window2, Link(n)) else {
             return ListEnd::LinkOutside;
         };
         let k = at / 64;
@@ -39,21 +47,28 @@ fn walk(window: &[u8], base: Address, head: Link, met: &mut [bool; 1024]) -> Lis
             return ListEnd::MetAgain;
         }
         met[k] = true;
-        let next = next_link(window, at);
+        let next = next_link(base, window, base2, window2, Link(n));
         n = next.0;
     }
     ListEnd::Whole
 }
 
 // The free list from FCX, then the used one from PCXI.
-pub fn check(window: &[u8], base: Address, fcx: u32, pcxi: u32) -> ListEnd
-    requires { ⌜ length (now window) ≤ 65536 ⌝ }
-    ensures { λ r. ⌜ (r ≡ listsOf (memory (base .0) (now (window .entry))) fcx pcxi) × Exactly (ListsCome (memory (base .0) (now (window .entry))) fcx pcxi) r ⌝ }
+pub fn check<'a>(
+    base: Address,
+    window: &'a [u8],
+    base2: Address,
+    window2: &'a [u8],
+    fcx: u32,
+    pcxi: u32,
+) -> ListEnd
+    requires { ⌜ length (now window ++ now window2) ≤ 131072 ⌝ }
+    ensures { λ r. ⌜ (r ≡ listsOf (lent (base .0) (now (window .entry)) (base2 .0) (now (window2 .entry))) fcx pcxi) × Exactly (ListsCome (lent (base .0) (now (window .entry)) (base2 .0) (now (window2 .entry))) fcx pcxi) r ⌝ }
 {
-    let mut met = [false; 1024];
-    let free = walk(window, base, link_of(fcx), &mut met);
+    let mut met = [false; 2048];
+    let free = walk(base, window, base2, window2, link_of(fcx), &mut met);
     match free {
-        ListEnd::Whole => walk(window, base, link_of(pcxi), &mut met),
+        ListEnd::Whole => walk(base, window, base2, window2, link_of(pcxi), &mut met),
         ListEnd::LinkOutside => free,
         ListEnd::MetAgain => free,
     }

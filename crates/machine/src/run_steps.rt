@@ -21,7 +21,7 @@ use spans::Span;
 use spans::look_ahead;
 ghost use mathlib.Core.Path.{_≡_};
 ghost use Prim.Native.Nat.{_<_};
-ghost use Rattle.memory.specs.Memory.{memory};
+ghost use Rattle.memory.specs.Memory.{lent};
 ghost use Rattle.registers.specs.Registers.{registers, pc};
 ghost use Rattle.protection.specs.Range.{rangesIn};
 ghost use Rattle.machine.specs.Step.{outcomeOf};
@@ -41,6 +41,8 @@ pub struct Paced {
 fn steady_steps(
     base: u32,
     window: &mut [u8],
+    base2: u32,
+    window2: &mut [u8],
     image: &[u8],
     d: &mut [u32; 16],
     a: &mut [u32; 16],
@@ -49,16 +51,16 @@ fn steady_steps(
     s: Span,
     n: u32,
 ) -> Paced
-    requires { ⌜ Ready (now image) (registers (now d) (now a) (now core)) (memory base (now window)) ⌝ }
+    requires { ⌜ Ready (now image) (registers (now d) (now a) (now core)) (lent base (now window) base2 (now window2)) ⌝ }
     requires { ⌜ SpanHolds (now image) (now core) (rangesIn (now words)) s ⌝ }
     requires { ⌜ (s .from ≡ pc (registers (now d) (now a) (now core))) × (0 < s .records) × (0 < n) ⌝ }
-    ensures { λ r. ⌜ Paces n (now (image .entry)) (rangesIn (now (words .entry))) (registers (now (d .entry)) (now (a .entry)) (now (core .entry))) (memory base (now (window .entry))) r (registers (now (d .exit)) (now (a .exit)) (now (core .exit))) (memory base (now (window .exit))) ⌝ }
+    ensures { λ r. ⌜ Paces n (now (image .entry)) (rangesIn (now (words .entry))) (registers (now (d .entry)) (now (a .entry)) (now (core .entry))) (lent base (now (window .entry)) base2 (now (window2 .entry))) r (registers (now (d .exit)) (now (a .exit)) (now (core .exit))) (lent base (now (window .exit)) base2 (now (window2 .exit))) ⌝ }
 {
     let mut left = n;
     let mut k: u32 = 0;
     loop {
         let i = read_record(image, s.at + 8 * k as usize, core[PC]);
-        let done = execute_instruction(base, window, d, a, core, words, i);
+        let done = execute_instruction(base, window, base2, window2, d, a, core, words, i);
         let ending = ending_of(done);
         let Ending::Made(_) = ending else {
             return Paced {
@@ -110,6 +112,8 @@ fn after_one(ending: Ending, n: u32) -> Paced
 fn instructions(
     base: u32,
     window: &mut [u8],
+    base2: u32,
+    window2: &mut [u8],
     image: &[u8],
     d: &mut [u32; 16],
     a: &mut [u32; 16],
@@ -117,16 +121,28 @@ fn instructions(
     words: &[u32; 96],
     n: u32,
 ) -> Paced
-    requires { ⌜ Ready (now image) (registers (now d) (now a) (now core)) (memory base (now window)) ⌝ }
+    requires { ⌜ Ready (now image) (registers (now d) (now a) (now core)) (lent base (now window) base2 (now window2)) ⌝ }
     requires { ⌜ 0 < n ⌝ }
-    ensures { λ r. ⌜ Paces n (now (image .entry)) (rangesIn (now (words .entry))) (registers (now (d .entry)) (now (a .entry)) (now (core .entry))) (memory base (now (window .entry))) r (registers (now (d .exit)) (now (a .exit)) (now (core .exit))) (memory base (now (window .exit))) ⌝ }
+    ensures { λ r. ⌜ Paces n (now (image .entry)) (rangesIn (now (words .entry))) (registers (now (d .entry)) (now (a .entry)) (now (core .entry))) (lent base (now (window .entry)) base2 (now (window2 .entry))) r (registers (now (d .exit)) (now (a .exit)) (now (core .exit))) (lent base (now (window .exit)) base2 (now (window2 .exit))) ⌝ }
 {
     match look_ahead(image, core, words) {
         Ahead::Traps(t) => {
             let pc = core[PC];
-            after_one(trap(base, window, d, a, core, t, pc), n)
+            after_one(trap(base, window, base2, window2, d, a, core, t, pc), n)
         }
-        Ahead::Records(s) => steady_steps(base, window, image, d, a, core, words, s, n),
+        Ahead::Records(s) => steady_steps(
+            base,
+            window,
+            base2,
+            window2,
+            image,
+            d,
+            a,
+            core,
+            words,
+            s,
+            n,
+        ),
     }
 }
 
@@ -155,6 +171,8 @@ pub struct Went {
 fn run_by_reference(
     base: u32,
     window: &mut [u8],
+    base2: u32,
+    window2: &mut [u8],
     image: &[u8],
     d: &mut [u32; 16],
     a: &mut [u32; 16],
@@ -163,15 +181,25 @@ fn run_by_reference(
     words: &[u32; 96],
     n: u32,
 ) -> Went
-    requires { ⌜ Ready (now image) (registers (now d) (now a) (now core)) (memory base (now window)) ⌝ }
-    ensures { λ r. ⌜ ran (outcomeOf (r .ending)) (r .made) (registers (now (d .exit)) (now (a .exit)) (now (core .exit))) (now (requests .exit)) (memory base (now (window .exit))) ≡ runFrom n (now (image .entry)) (rangesIn (now (words .entry))) (outcome.Made event.Instruction) 0 (registers (now (d .entry)) (now (a .entry)) (now (core .entry))) (now (requests .entry)) (memory base (now (window .entry))) ⌝ }
+    requires { ⌜ Ready (now image) (registers (now d) (now a) (now core)) (lent base (now window) base2 (now window2)) ⌝ }
+    ensures { λ r. ⌜ ran (outcomeOf (r .ending)) (r .made) (registers (now (d .exit)) (now (a .exit)) (now (core .exit))) (now (requests .exit)) (lent base (now (window .exit)) base2 (now (window2 .exit))) ≡ runFrom n (now (image .entry)) (rangesIn (now (words .entry))) (outcome.Made event.Instruction) 0 (registers (now (d .entry)) (now (a .entry)) (now (core .entry))) (now (requests .entry)) (lent base (now (window .entry)) base2 (now (window2 .entry))) ⌝ }
 {
     let mut best = first_source(requests, core[ICR], n);
     let mut last = Event::Instruction;
     let mut left = n;
     while left != 0 {
         if taken(core[ICR], best.level) {
-            let ending = passed_on(interrupt(base, window, d, a, core, best.source, best.level));
+            let ending = passed_on(interrupt(
+                base,
+                window,
+                base2,
+                window2,
+                d,
+                a,
+                core,
+                best.source,
+                best.level,
+            ));
             let Ending::Made(e) = ending else {
                 return Went {
                     ending: ending,
@@ -184,7 +212,7 @@ fn run_by_reference(
             best = best_source(requests);
             continue;
         }
-        let p = instructions(base, window, image, d, a, core, words, left);
+        let p = instructions(base, window, base2, window2, image, d, a, core, words, left);
         let ending = p.ending;
         let Ending::Made(e) = ending else {
             return Went {
@@ -205,6 +233,8 @@ fn run_by_reference(
 pub fn run_steps(
     base: u32,
     window: &mut [u8],
+    base2: u32,
+    window2: &mut [u8],
     image: &[u8],
     d: &mut [u32; 16],
     a: &mut [u32; 16],
@@ -213,8 +243,8 @@ pub fn run_steps(
     words: &[u32; 96],
     n: u32,
 ) -> Went
-    requires { ⌜ Ready (now image) (registers (now d) (now a) (now core)) (memory base (now window)) ⌝ }
-    ensures { λ r. ⌜ ran (outcomeOf (r .ending)) (r .made) (registers (now (d .exit)) (now (a .exit)) (now (core .exit))) (now (requests .exit)) (memory base (now (window .exit))) ≡ runFrom n (now (image .entry)) (rangesIn (now (words .entry))) (outcome.Made event.Instruction) 0 (registers (now (d .entry)) (now (a .entry)) (now (core .entry))) (now (requests .entry)) (memory base (now (window .entry))) ⌝ }
+    requires { ⌜ Ready (now image) (registers (now d) (now a) (now core)) (lent base (now window) base2 (now window2)) ⌝ }
+    ensures { λ r. ⌜ ran (outcomeOf (r .ending)) (r .made) (registers (now (d .exit)) (now (a .exit)) (now (core .exit))) (now (requests .exit)) (lent base (now (window .exit)) base2 (now (window2 .exit))) ≡ runFrom n (now (image .entry)) (rangesIn (now (words .entry))) (outcome.Made event.Instruction) 0 (registers (now (d .entry)) (now (a .entry)) (now (core .entry))) (now (requests .entry)) (lent base (now (window .entry)) base2 (now (window2 .entry))) ⌝ }
 {
     let mut own_d = *d;
     let mut own_a = *a;
@@ -222,6 +252,8 @@ pub fn run_steps(
     let w = run_by_reference(
         base,
         window,
+        base2,
+        window2,
         image,
         &mut own_d,
         &mut own_a,

@@ -17,7 +17,7 @@ use registers::PC;
 use registers::Registers;
 ghost use mathlib.Core.Path.{_≡_};
 ghost use Rattle.words.specs.Exactly.{Exactly};
-ghost use Rattle.memory.specs.Memory.{memory};
+ghost use Rattle.memory.specs.Memory.{lent};
 ghost use Rattle.registers.specs.Registers.{pc};
 ghost use Rattle.inputs.specs.Rules.{StepSays};
 ghost use Rattle.machine.specs.Step.{verdictIn, stepped, stepOf};
@@ -28,14 +28,16 @@ ghost use Rattle.machine.specs.Inner.{Ready};
 pub fn step_accepted(
     base: Address,
     window: &mut [u8],
+    base2: Address,
+    window2: &mut [u8],
     image: &[u8],
     registers: Registers,
     requests: [u32; 16],
     ranges: [Range; 32],
 ) -> Stepped
-    requires { ⌜ Ready (now image) registers (memory (base .0) (now window)) ⌝ }
-    ensures { λ r. ⌜ stepped (r .outcome) (r .registers) (r .requests) (memory (base .0) (now (window .exit))) (r .permits) ≡ stepOf (now (image .entry)) registers requests ranges (memory (base .0) (now (window .entry))) ⌝ }
-    ensures { λ r. ⌜ Ready (now (image .entry)) (r .registers) (memory (base .0) (now (window .exit))) ⌝ }
+    requires { ⌜ Ready (now image) registers (lent (base .0) (now window) (base2 .0) (now window2)) ⌝ }
+    ensures { λ r. ⌜ stepped (r .outcome) (r .registers) (r .requests) (lent (base .0) (now (window .exit)) (base2 .0) (now (window2 .exit))) (r .permits) ≡ stepOf (now (image .entry)) registers requests ranges (lent (base .0) (now (window .entry)) (base2 .0) (now (window2 .entry))) ⌝ }
+    ensures { λ r. ⌜ Ready (now (image .entry)) (r .registers) (lent (base .0) (now (window .exit)) (base2 .0) (now (window2 .exit))) ⌝ }
 {
     let words = flat(ranges);
     let mut d = registers.d;
@@ -46,6 +48,8 @@ pub fn step_accepted(
     let w = run_steps(
         base.0,
         window,
+        base2.0,
+        window2,
         image,
         &mut d,
         &mut a,
@@ -71,15 +75,17 @@ pub fn step_accepted(
 pub fn step(
     base: Address,
     window: &mut [u8],
+    base2: Address,
+    window2: &mut [u8],
     image: &[u8],
     registers: Registers,
     requests: [u32; 16],
     ranges: [Range; 32],
 ) -> Stepped
-    ensures { λ r. ⌜ stepped (r .outcome) (r .registers) (r .requests) (memory (base .0) (now (window .exit))) (r .permits) ≡ stepOf (now (image .entry)) registers requests ranges (memory (base .0) (now (window .entry))) ⌝ }
-    ensures { λ r. ⌜ Exactly (StepSays (memory (base .0) (now (window .entry))) (now (image .entry)) (pc registers)) (verdictIn (r .outcome)) ⌝ }
+    ensures { λ r. ⌜ stepped (r .outcome) (r .registers) (r .requests) (lent (base .0) (now (window .exit)) (base2 .0) (now (window2 .exit))) (r .permits) ≡ stepOf (now (image .entry)) registers requests ranges (lent (base .0) (now (window .entry)) (base2 .0) (now (window2 .entry))) ⌝ }
+    ensures { λ r. ⌜ Exactly (StepSays (lent (base .0) (now (window .entry)) (base2 .0) (now (window2 .entry))) (now (image .entry)) (pc registers)) (verdictIn (r .outcome)) ⌝ }
 {
-    match try_step(base, window, image, registers.core[PC]) {
+    match try_step(base, window, base2, window2, image, registers.core[PC]) {
         Verdict::Refused(x) => Stepped {
             registers: registers,
             requests: requests,
@@ -89,7 +95,7 @@ pub fn step(
                 data: Permit::Unnamed,
             },
         },
-        Verdict::Accepted => { step_accepted(base, window, image, registers, requests, ranges) }
+        Verdict::Accepted => { step_accepted(base, window, base2, window2, image, registers, requests, ranges) }
     }
 }
 
@@ -97,17 +103,19 @@ pub fn step(
 pub fn run(
     base: Address,
     window: &mut [u8],
+    base2: Address,
+    window2: &mut [u8],
     image: &[u8],
     registers: Registers,
     requests: [u32; 16],
     ranges: [Range; 32],
     n: u32,
 ) -> Ran
-    ensures { λ r. ⌜ ran (r .outcome) (r .made) (r .registers) (r .requests) (memory (base .0) (now (window .exit))) ≡ runOf n (now (image .entry)) registers requests ranges (memory (base .0) (now (window .entry))) ⌝ }
-    ensures { λ r. ⌜ RefusedKeeps registers requests (memory (base .0) (now (window .entry))) (ran (r .outcome) (r .made) (r .registers) (r .requests) (memory (base .0) (now (window .exit)))) ⌝ }
-    ensures { λ r. ⌜ Exactly (StepSays (memory (base .0) (now (window .entry))) (now (image .entry)) (pc registers)) (verdictIn (r .outcome)) ⌝ }
+    ensures { λ r. ⌜ ran (r .outcome) (r .made) (r .registers) (r .requests) (lent (base .0) (now (window .exit)) (base2 .0) (now (window2 .exit))) ≡ runOf n (now (image .entry)) registers requests ranges (lent (base .0) (now (window .entry)) (base2 .0) (now (window2 .entry))) ⌝ }
+    ensures { λ r. ⌜ RefusedKeeps registers requests (lent (base .0) (now (window .entry)) (base2 .0) (now (window2 .entry))) (ran (r .outcome) (r .made) (r .registers) (r .requests) (lent (base .0) (now (window .exit)) (base2 .0) (now (window2 .exit)))) ⌝ }
+    ensures { λ r. ⌜ Exactly (StepSays (lent (base .0) (now (window .entry)) (base2 .0) (now (window2 .entry))) (now (image .entry)) (pc registers)) (verdictIn (r .outcome)) ⌝ }
 {
-    match try_step(base, window, image, registers.core[PC]) {
+    match try_step(base, window, base2, window2, image, registers.core[PC]) {
         Verdict::Refused(x) => Ran {
             registers: registers,
             requests: requests,
@@ -123,6 +131,8 @@ pub fn run(
             let w = run_steps(
                 base.0,
                 window,
+                base2.0,
+                window2,
                 image,
                 &mut d,
                 &mut a,

@@ -1,2 +1,3 @@
 -- Laws of words in memory.
 pub mod Words
+pub mod Joined

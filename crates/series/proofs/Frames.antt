@@ -33,7 +33,7 @@ pub count-both : (l : Link) (ks js : List Link) → count l (ks ++ js) ≡ count
 count-both l [] js = omega arith
 count-both l (k ∷ ks) js = omega (arith, count-both l ks js)
 
-module _ (m n : Memory) (base : n .base ≡ m .base) (len : length (n .bytes) ≡ length (m .bytes)) where
+module _ (m n : Memory) (base : n .windows ≡ m .windows) (len : length (n .bytes) ≡ length (m .bytes)) where
   pub place-same : (l : Link) → placeOf n l ≡ placeOf m l
   place-same l = rw (base, len)
 

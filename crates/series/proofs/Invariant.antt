@@ -51,7 +51,7 @@ same-place m l a b p q = at-inj (sym p ∙ q)
 
 -- other links' areas lie apart
 others : (m : Memory) (l : Link) (at : ℕ) → l .0 < 2 ^ 20 → placeOf m l ≡ At at → (k : Link) → k .0 < 2 ^ 20 → (l .0 ≡ k .0 → ⊥) → (p : ℕ) → placeOf m k ≡ At p → ((at + 64 ≤ p) ⊎ (p + 64 ≤ at)) × (p + 64 ≤ length (m .bytes))
-others m l at h e k g n p f = (apart (m .base) (length (m .bytes)) l k at p h g n e f, placed-at (m .base) (length (m .bytes)) (addressOf k) p f .inside)
+others m l at h e k g n p f = (apart (m .windows) (length (m .bytes)) l k at p h g n e f, placed-at (m .windows) (length (m .bytes)) (addressOf k) p f .inside)
 
 -- a link that stands on a list where l does not is another one
 not-on : (l k : Link) (ks : List Link) → count l ks ≡ 0 → 1 ≤ count k ks → l .0 ≡ k .0 → ⊥
@@ -65,7 +65,7 @@ module _ {L : List Link} {r : Registers} {m : Memory} where
     ws = contextOf half saved-pc r
 
     abbrev n : Memory
-    n = memory (m .base) (putWords (m .bytes) at ws 16)
+    n = memory (m .windows) (putWords (m .bytes) at ws 16)
 
     is-l : linkOf (fcx r) ≡ l
     is-l = i .agree .free .0
@@ -74,7 +74,7 @@ module _ {L : List Link} {r : Registers} {m : Memory} where
     place-l = ap (placeOf m) (sym is-l) ∙ p
 
     inside : at + 64 ≤ length (m .bytes)
-    inside = placed-at (m .base) (length (m .bytes)) (addressOf (linkOf (fcx r))) at p .inside
+    inside = placed-at (m .windows) (length (m .bytes)) (addressOf (linkOf (fcx r))) at p .inside
 
     -- l stands on neither list otherwise
     fresh : (count l ls ≡ 0) × (count l (links cs) ≡ 0)
@@ -126,7 +126,7 @@ module _ {L : List Link} {r : Registers} {m : Memory} where
   -- ---- a return
   module _ (c : SavedContext) (cs : List SavedContext) (fs : List Link) (i : Inv L (state r m) (lists fs (c ∷ cs))) (at : ℕ) (p : placeOf m (linkOf (pcxi r)) ≡ At at) where
     abbrev n′ : Memory
-    n′ = memory (m .base) (putWord (m .bytes) at (fcx r))
+    n′ = memory (m .windows) (putWord (m .bytes) at (fcx r))
 
     is-c : linkOf (pcxi r) ≡ c .link
     is-c = i .agree .saved .0
@@ -135,7 +135,7 @@ module _ {L : List Link} {r : Registers} {m : Memory} where
     place-c = ap (placeOf m) (sym is-c) ∙ p
 
     inside′ : at + 64 ≤ length (m .bytes)
-    inside′ = placed-at (m .base) (length (m .bytes)) (addressOf (linkOf (pcxi r))) at p .inside
+    inside′ = placed-at (m .windows) (length (m .bytes)) (addressOf (linkOf (pcxi r))) at p .inside
 
     fresh′ : (count (c .link) fs ≡ 0) × (count (c .link) (links cs) ≡ 0)
     fresh′ = (omega (arith, i .same (c .link), i .once (c .link), one-self (c .link)), omega (arith, i .same (c .link), i .once (c .link), one-self (c .link)))

@@ -46,10 +46,10 @@ use Rattle.series.proofs.Invariant.{Inv, save-inv}
 
 -- ---- the area for a save, from the free list
 no-room : (m : Memory) (w : ℕ) → linkOf w ≡ end → roomOf m w ≡ room.Stops NoArea
-no-room m w e = sym (room-none (m .base) (length (m .bytes)) w (linkOf w) refl (ap (λ (l : Link). l .0) e))
+no-room m w e = sym (room-none (m .windows) (length (m .bytes)) w (linkOf w) refl (ap (λ (l : Link). l .0) e))
 
 some-room : (m : Memory) (w at : ℕ) → (linkOf w .0 ≡ 0 → ⊥) → placeOf m (linkOf w) ≡ At at → roomOf m w ≡ room.At at
-some-room m w at z p = sym (room-some (m .base) (length (m .bytes)) w (linkOf w) refl z (placeOf m (linkOf w)) refl at p)
+some-room m w at z p = sym (room-some (m .windows) (length (m .bytes)) w (linkOf w) refl z (placeOf m (linkOf w)) refl at p)
 
 -- ---- PCXI by the link, and the upper registers without the heads
 pcxi-by : (icr fcx : ℕ) (ul : Bool) (l : Link) → linkOf fcx ≡ l → pcxiOf icr ul fcx ≡ pcxiOf icr ul (l .0)
@@ -91,20 +91,20 @@ module _ (e : Event) (half : Half) (saved-pc : ℕ) (h : saved-pc < 2 ^ 32) (the
 
     -- ---- one save
     one-save : (l : Link) (ls : List Link) (cs : List SavedContext) → Inv L (state r m) (lists (l ∷ ls) cs) → (at : ℕ) → roomOf m (fcx r) ≡ room.At at
-        → Inv L (state (q at) (memory (m .base) (savedBytes e half saved-pc then r m at))) (lists ls (context l half (named half r) ∷ cs))
+        → Inv L (state (q at) (memory (m .windows) (savedBytes e half saved-pc then r m at))) (lists ls (context l half (named half r) ∷ cs))
     one-save l ls cs i at k =
-        save-inv l ls cs i half saved-pc h at (room-at (m .base) (length (m .bytes)) (fcx r) at k .lies) (q at) (q-valid at) (q-fcx at) (q-pcxi at)
+        save-inv l ls cs i half saved-pc h at (room-at (m .windows) (length (m .bytes)) (fcx r) at k .lies) (q at) (q-valid at) (q-fcx at) (q-pcxi at)
 
     -- ---- the FCD entry's after it
     abbrev n : ℕ → Memory
-    n at = memory (m .base) (savedBytes e half saved-pc then r m at)
+    n at = memory (m .windows) (savedBytes e half saved-pc then r m at)
 
     two-saves : (l k : Link) (ks : List Link) (cs : List SavedContext) → Inv L (state r m) (lists (l ∷ k ∷ ks) cs) → (at second : ℕ) → roomOf m (fcx r) ≡ room.At at → roomOf m (wordAt (m .bytes) at) ≡ room.At second
-        → Inv L (state (fcdRegisters e half saved-pc then r m at second) (memory (m .base) (putWords (savedBytes e half saved-pc then r m at) second (upperOf (q at)) 16)))
+        → Inv L (state (fcdRegisters e half saved-pc then r m at second) (memory (m .windows) (putWords (savedBytes e half saved-pc then r m at) second (upperOf (q at)) 16)))
         (saveTwo s l (k ∷ ks) (lists (l ∷ k ∷ ks) cs))
     two-saves l k ks cs i at second a c =
         let j = one-save l (k ∷ ks) cs i at a in
-        let lies = room-at (m .base) (length (m .bytes)) (wordAt (m .bytes) at) second c .lies in
+        let lies = room-at (m .windows) (length (m .bytes)) (wordAt (m .bytes) at) second c .lies in
         let x = afterSave Upper second (n at .bytes) (q at) in
         let f : Then (trapEntry FCD (pc x)) = trap-then FCD (pc x) (small (omega arith) (omega arith)) (after-valid Upper second (n at .bytes) (q-valid at) .core .each 0) in
         let again : linkOf (fcx (q at)) ≡ linkOf (wordAt (m .bytes) at) = ap (λ (y : ℕ). linkOf y) (q-fcx at) ∙ link-twice (wordAt (m .bytes) at) in
@@ -115,14 +115,14 @@ module _ (e : Event) (half : Half) (saved-pc : ℕ) (h : saved-pc < 2 ^ 32) (the
         save-inv k ks (context l half (named half r) ∷ cs) j Upper 0 (omega arith) second p (trapEntry FCD (pc x) x) (f .valid x (after-valid Upper second (n at .bytes) (q-valid at)))
         (ap fcx (f .blind (q at) (q-valid at) _ _) ∙ head-fcx _ (f .valid (q at) (q-valid at)) _ _)
         (ap pcxi (f .blind (q at) (q-valid at) _ _) ∙ head-pcxi _ (f .valid (q at) (q-valid at)) _ _) in
-        subst (λ (y : List ℕ). Inv L (state (trapEntry FCD (pc x) x) (memory (m .base) (putWords (n at .bytes) second (upperOf (q at)) 16))) (lists ks (context k Upper y ∷ context l half (named half r) ∷ cs))) entry z
+        subst (λ (y : List ℕ). Inv L (state (trapEntry FCD (pc x) x) (memory (m .windows) (putWords (n at .bytes) second (upperOf (q at)) 16))) (lists ks (context k Upper y ∷ context l half (named half r) ∷ cs))) entry z
 
     -- ---- the cases
     -- the next area's room is that of the next free link
     next-room : (l : Link) (ls : List Link) (cs : List SavedContext) → Inv L (state r m) (lists (l ∷ ls) cs) → (at : ℕ) → roomOf m (fcx r) ≡ room.At at → Leads m (linkOf (wordAt (m .bytes) at)) ls end
     next-room l ls cs i at k =
         let f = i .agree .free in
-        let p = room-at (m .base) (length (m .bytes)) (fcx r) at k .lies in
+        let p = room-at (m .windows) (length (m .bytes)) (fcx r) at k .lies in
         subst (λ (a : ℕ). Leads m (linkOf (wordAt (m .bytes) a)) ls end) (same-at (sym (f .3) ∙ p)) (f .4)
       where
         same-at : {a b : ℕ} → At a ≡ At b → a ≡ b

@@ -75,7 +75,7 @@ stored-byte StA s at v k h = putWord-byte s at v k h
 
 module _ {L : List Link} {r : Registers} {m : Memory} {b : AbstractLists} (i : Inv L (state r m) b) (op : Store) (at v : ℕ) (h : v < 2 ^ 32) (f : Apart L m op at) where
   abbrev n : Memory
-  n = memory (m .base) (storedOf op (m .bytes) at v)
+  n = memory (m .windows) (storedOf op (m .bytes) at v)
 
   -- a byte of a listed area is not stored
   clear : (l : Link) → 1 ≤ count l L → (p : ℕ) → placeOf m l ≡ At p → (k : ℕ) → p ≤ k → k < p + 64 → (k < at) ⊎ (at + sizeOf op ≤ k)
@@ -88,7 +88,7 @@ module _ {L : List Link} {r : Registers} {m : Memory} {b : AbstractLists} (i : I
 
   unchanged : (ks : List Link) → ((l : Link) → count l ks ≤ count l L) → Unchanged m n refl (stored-length op (m .bytes) at v) ks
   unchanged ks g l x c p e =
-      area-same (m .bytes) (n .bytes) p (placed-at (m .base) (length (m .bytes)) (addressOf l) p e .inside) (stored-length op (m .bytes) at v)
+      area-same (m .bytes) (n .bytes) p (placed-at (m .windows) (length (m .bytes)) (addressOf l) p e .inside) (stored-length op (m .bytes) at v)
       (λ k y z. stored-byte op (m .bytes) at v k (clear l (omega (arith, g l)) p e k y z))
 
   write-inv : (quiet : Type 0) (q : Registers) → Sound quiet r q → quiet → Inv L (state q n) b

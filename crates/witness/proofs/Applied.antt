@@ -8,7 +8,7 @@ use lib.ListN.{getD}
 use Rattle.words.specs.Bits.{bit}
 use Rattle.fields.specs.Field.{isSet}
 use Rattle.memory.specs.Word.{wordAt, wordsAt}
-use Rattle.areas.specs.Place.{placedAt}
+use Rattle.areas.specs.Place.{placedAt, placedIn}
 use Rattle.decisions.specs.Valid.{Valid, Bytes}
 use Rattle.series.specs.Abstract.{held}
 use Rattle.series.specs.Claim.{Agree, Claim}
@@ -37,7 +37,7 @@ bytes : Bytes (start .memory .bytes)
 bytes = bytes-by window _
 
 agree : Agree start begun
-unfolding bit isSet wordAt wordsAt placedAt held
+unfolding bit isSet wordAt wordsAt placedAt placedIn held
 agree =
     record {
       free = (refl, λ e. omega (arith, e), 0, refl, (refl, λ e. omega (arith, e), 64, refl, (refl, λ e. omega (arith, e), 128, refl, refl)));

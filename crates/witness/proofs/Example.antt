@@ -10,7 +10,7 @@ use Rattle.fields.specs.Pcxi.{pcxiOf}
 use Rattle.fields.specs.Request.{requests, clearedOf}
 use Rattle.memory.specs.Word.{wordAt, wordsAt, putWord, putWords}
 use Rattle.registers.specs.Registers.{plusOf, pc, fcx, pcxi}
-use Rattle.areas.specs.Place.{placedAt}
+use Rattle.areas.specs.Place.{placedAt, placedIn}
 use Rattle.lists.specs.Walk.{walkOf, listsOf}
 use Rattle.contexts.specs.Context.{upperOf, lowerOf}
 use Rattle.contexts.specs.Save.{roomAt, takeOf, saveAtOf, saveOf}
@@ -24,7 +24,7 @@ use Rattle.image.specs.Table.{entryAt, entryHolds, entriesFrom, tableOf}
 use Rattle.image.specs.Records.{recordHolds, recordsFrom, imageOf}
 use Rattle.image.specs.Rest.{restFrom, restOf}
 use Rattle.image.specs.Fetch.{instructionAt, fetchOf}
-use Rattle.inputs.specs.Checks.{windowHolds, stepVerdict, startVerdict}
+use Rattle.inputs.specs.Checks.{windowHolds, secondHolds, apartHolds, windowsVerdict, stepVerdict, startVerdict}
 use Rattle.inputs.specs.declared.verdict.Verdict.the-variants.{Accepted}
 use Rattle.accesses.specs.Reach.{alignedReach, reachOf}
 use Rattle.accesses.specs.Store.{storeOf}
@@ -45,29 +45,29 @@ use Rattle.witness.specs.Lists.{begun, depleted, allFree, ended}
 use Rattle.witness.specs.Witness.{outcomes, happening, loaded}
 
 pub accepted : startVerdict (start .memory) (interrupted .bytes) (pc (start .registers)) (fcx (start .registers)) (pcxi (start .registers)) ≡ Accepted
-unfolding wordAt placedAt walkOf listsOf entryAt entryHolds entriesFrom tableOf recordHolds recordsFrom imageOf windowHolds stepVerdict startVerdict
+unfolding wordAt placedAt placedIn walkOf listsOf entryAt entryHolds entriesFrom tableOf recordHolds recordsFrom imageOf windowHolds secondHolds apartHolds windowsVerdict stepVerdict startVerdict
 accepted = refl
 
 pub happened : outcomes (allArgs calls start) ≡ happening
-unfolding bit isSet counterBits counts overflowsUp underflowsDown nested calledOf icrOf pcxiOf requests clearedOf wordAt wordsAt putWord putWords plusOf placedAt upperOf lowerOf roomAt takeOf saveAtOf saveOf loadOf returnOf stackOf enteredOf trapEntry interruptEntry interruptOf trapOf fcdOf betterOf bestBelow takes clearedAt enables permits firstOf anyFrom checkOf operationOf entryAt entryHolds entriesFrom tableOf recordHolds recordsFrom imageOf restFrom restOf instructionAt fetchOf windowHolds stepVerdict calledThen callOf svlcxOf bisrThen bisrOf previousOf retOf rfeOf rslcxOf contextOp alignedReach reachOf storeOf actOf finishOf executeOf instructionOf oneOf requestsOf stepOf runFrom runOf runArgs
+unfolding bit isSet counterBits counts overflowsUp underflowsDown nested calledOf icrOf pcxiOf requests clearedOf wordAt wordsAt putWord putWords plusOf placedAt placedIn upperOf lowerOf roomAt takeOf saveAtOf saveOf loadOf returnOf stackOf enteredOf trapEntry interruptEntry interruptOf trapOf fcdOf betterOf bestBelow takes clearedAt enables permits firstOf anyFrom checkOf operationOf entryAt entryHolds entriesFrom tableOf recordHolds recordsFrom imageOf restFrom restOf instructionAt fetchOf windowHolds secondHolds apartHolds windowsVerdict stepVerdict calledThen callOf svlcxOf bisrThen bisrOf previousOf retOf rfeOf rslcxOf contextOp alignedReach reachOf storeOf actOf finishOf executeOf instructionOf oneOf requestsOf stepOf runFrom runOf runArgs
 happened = refl
 
 pub no-area-left : movedAll (allArgs saving start) begun ≡ depleted
-unfolding bit isSet counterBits counts overflowsUp underflowsDown nested calledOf icrOf pcxiOf requests clearedOf wordAt wordsAt putWord putWords plusOf placedAt upperOf lowerOf roomAt takeOf saveAtOf saveOf loadOf returnOf stackOf enteredOf trapEntry interruptEntry interruptOf trapOf fcdOf betterOf bestBelow takes clearedAt enables permits firstOf anyFrom checkOf operationOf entryAt entryHolds entriesFrom tableOf recordHolds recordsFrom imageOf restFrom restOf instructionAt fetchOf windowHolds stepVerdict calledThen callOf svlcxOf bisrThen bisrOf previousOf retOf rfeOf rslcxOf contextOp alignedReach reachOf storeOf actOf finishOf executeOf instructionOf oneOf requestsOf stepOf runFrom runOf runArgs decisionOf upperRegisters lowerRegisters moved movedAt
+unfolding bit isSet counterBits counts overflowsUp underflowsDown nested calledOf icrOf pcxiOf requests clearedOf wordAt wordsAt putWord putWords plusOf placedAt placedIn upperOf lowerOf roomAt takeOf saveAtOf saveOf loadOf returnOf stackOf enteredOf trapEntry interruptEntry interruptOf trapOf fcdOf betterOf bestBelow takes clearedAt enables permits firstOf anyFrom checkOf operationOf entryAt entryHolds entriesFrom tableOf recordHolds recordsFrom imageOf restFrom restOf instructionAt fetchOf windowHolds secondHolds apartHolds windowsVerdict stepVerdict calledThen callOf svlcxOf bisrThen bisrOf previousOf retOf rfeOf rslcxOf contextOp alignedReach reachOf storeOf actOf finishOf executeOf instructionOf oneOf requestsOf stepOf runFrom runOf runArgs decisionOf upperRegisters lowerRegisters moved movedAt
 no-area-left = refl
 
 pub no-area-used : movedAll (allArgs (saving ++ returning) start) begun ≡ allFree
-unfolding bit isSet counterBits counts overflowsUp underflowsDown nested calledOf icrOf pcxiOf requests clearedOf wordAt wordsAt putWord putWords plusOf placedAt upperOf lowerOf roomAt takeOf saveAtOf saveOf loadOf returnOf stackOf enteredOf trapEntry interruptEntry interruptOf trapOf fcdOf betterOf bestBelow takes clearedAt enables permits firstOf anyFrom checkOf operationOf entryAt entryHolds entriesFrom tableOf recordHolds recordsFrom imageOf restFrom restOf instructionAt fetchOf windowHolds stepVerdict calledThen callOf svlcxOf bisrThen bisrOf previousOf retOf rfeOf rslcxOf contextOp alignedReach reachOf storeOf actOf finishOf executeOf instructionOf oneOf requestsOf stepOf runFrom runOf runArgs decisionOf upperRegisters lowerRegisters moved movedAt
+unfolding bit isSet counterBits counts overflowsUp underflowsDown nested calledOf icrOf pcxiOf requests clearedOf wordAt wordsAt putWord putWords plusOf placedAt placedIn upperOf lowerOf roomAt takeOf saveAtOf saveOf loadOf returnOf stackOf enteredOf trapEntry interruptEntry interruptOf trapOf fcdOf betterOf bestBelow takes clearedAt enables permits firstOf anyFrom checkOf operationOf entryAt entryHolds entriesFrom tableOf recordHolds recordsFrom imageOf restFrom restOf instructionAt fetchOf windowHolds secondHolds apartHolds windowsVerdict stepVerdict calledThen callOf svlcxOf bisrThen bisrOf previousOf retOf rfeOf rslcxOf contextOp alignedReach reachOf storeOf actOf finishOf executeOf instructionOf oneOf requestsOf stepOf runFrom runOf runArgs decisionOf upperRegisters lowerRegisters moved movedAt
 no-area-used = refl
 
 pub after : movedAll (allArgs calls start) begun ≡ ended
-unfolding bit isSet counterBits counts overflowsUp underflowsDown nested calledOf icrOf pcxiOf requests clearedOf wordAt wordsAt putWord putWords plusOf placedAt upperOf lowerOf roomAt takeOf saveAtOf saveOf loadOf returnOf stackOf enteredOf trapEntry interruptEntry interruptOf trapOf fcdOf betterOf bestBelow takes clearedAt enables permits firstOf anyFrom checkOf operationOf entryAt entryHolds entriesFrom tableOf recordHolds recordsFrom imageOf restFrom restOf instructionAt fetchOf windowHolds stepVerdict calledThen callOf svlcxOf bisrThen bisrOf previousOf retOf rfeOf rslcxOf contextOp alignedReach reachOf storeOf actOf finishOf executeOf instructionOf oneOf requestsOf stepOf runFrom runOf runArgs decisionOf upperRegisters lowerRegisters moved movedAt
+unfolding bit isSet counterBits counts overflowsUp underflowsDown nested calledOf icrOf pcxiOf requests clearedOf wordAt wordsAt putWord putWords plusOf placedAt placedIn upperOf lowerOf roomAt takeOf saveAtOf saveOf loadOf returnOf stackOf enteredOf trapEntry interruptEntry interruptOf trapOf fcdOf betterOf bestBelow takes clearedAt enables permits firstOf anyFrom checkOf operationOf entryAt entryHolds entriesFrom tableOf recordHolds recordsFrom imageOf restFrom restOf instructionAt fetchOf windowHolds secondHolds apartHolds windowsVerdict stepVerdict calledThen callOf svlcxOf bisrThen bisrOf previousOf retOf rfeOf rslcxOf contextOp alignedReach reachOf storeOf actOf finishOf executeOf instructionOf oneOf requestsOf stepOf runFrom runOf runArgs decisionOf upperRegisters lowerRegisters moved movedAt
 after = refl
 
 pub restored : afterAll (saving ++ returning) start .registers ≡ loaded
-unfolding bit isSet counterBits counts overflowsUp underflowsDown nested calledOf icrOf pcxiOf requests clearedOf wordAt wordsAt putWord putWords plusOf placedAt upperOf lowerOf roomAt takeOf saveAtOf saveOf loadOf returnOf stackOf enteredOf trapEntry interruptEntry interruptOf trapOf fcdOf betterOf bestBelow takes clearedAt enables permits firstOf anyFrom checkOf operationOf entryAt entryHolds entriesFrom tableOf recordHolds recordsFrom imageOf restFrom restOf instructionAt fetchOf windowHolds stepVerdict calledThen callOf svlcxOf bisrThen bisrOf previousOf retOf rfeOf rslcxOf contextOp alignedReach reachOf storeOf actOf finishOf executeOf instructionOf oneOf requestsOf stepOf runFrom runOf runArgs
+unfolding bit isSet counterBits counts overflowsUp underflowsDown nested calledOf icrOf pcxiOf requests clearedOf wordAt wordsAt putWord putWords plusOf placedAt placedIn upperOf lowerOf roomAt takeOf saveAtOf saveOf loadOf returnOf stackOf enteredOf trapEntry interruptEntry interruptOf trapOf fcdOf betterOf bestBelow takes clearedAt enables permits firstOf anyFrom checkOf operationOf entryAt entryHolds entriesFrom tableOf recordHolds recordsFrom imageOf restFrom restOf instructionAt fetchOf windowHolds secondHolds apartHolds windowsVerdict stepVerdict calledThen callOf svlcxOf bisrThen bisrOf previousOf retOf rfeOf rslcxOf contextOp alignedReach reachOf storeOf actOf finishOf executeOf instructionOf oneOf requestsOf stepOf runFrom runOf runArgs
 restored = refl
 
 pub stored : wordAt (afterAll calls start .memory .bytes) 320 ≡ 1
-unfolding bit isSet counterBits counts overflowsUp underflowsDown nested calledOf icrOf pcxiOf requests clearedOf wordAt wordsAt putWord putWords plusOf placedAt upperOf lowerOf roomAt takeOf saveAtOf saveOf loadOf returnOf stackOf enteredOf trapEntry interruptEntry interruptOf trapOf fcdOf betterOf bestBelow takes clearedAt enables permits firstOf anyFrom checkOf operationOf entryAt entryHolds entriesFrom tableOf recordHolds recordsFrom imageOf restFrom restOf instructionAt fetchOf windowHolds stepVerdict calledThen callOf svlcxOf bisrThen bisrOf previousOf retOf rfeOf rslcxOf contextOp alignedReach reachOf storeOf actOf finishOf executeOf instructionOf oneOf requestsOf stepOf runFrom runOf runArgs
+unfolding bit isSet counterBits counts overflowsUp underflowsDown nested calledOf icrOf pcxiOf requests clearedOf wordAt wordsAt putWord putWords plusOf placedAt placedIn upperOf lowerOf roomAt takeOf saveAtOf saveOf loadOf returnOf stackOf enteredOf trapEntry interruptEntry interruptOf trapOf fcdOf betterOf bestBelow takes clearedAt enables permits firstOf anyFrom checkOf operationOf entryAt entryHolds entriesFrom tableOf recordHolds recordsFrom imageOf restFrom restOf instructionAt fetchOf windowHolds secondHolds apartHolds windowsVerdict stepVerdict calledThen callOf svlcxOf bisrThen bisrOf previousOf retOf rfeOf rslcxOf contextOp alignedReach reachOf storeOf actOf finishOf executeOf instructionOf oneOf requestsOf stepOf runFrom runOf runArgs
 stored = refl

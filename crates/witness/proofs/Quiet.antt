@@ -17,7 +17,7 @@ use Rattle.memory.specs.Word.{wordAt, wordsAt, putWord, putWords}
 use Rattle.registers.specs.Registers.{plusOf}
 use Rattle.areas.specs.declared.link.Link.{Link}
 use Rattle.areas.specs.declared.link.Place.the-variants.{At}
-use Rattle.areas.specs.Place.{placedAt, placeOf}
+use Rattle.areas.specs.Place.{placedAt, placedIn, placeOf}
 use Rattle.lists.specs.Lists.{count}
 use Rattle.lists.proofs.Counts.{same?, one-other}
 use Rattle.contexts.specs.Context.{upperOf, lowerOf}
@@ -33,7 +33,7 @@ use Rattle.image.specs.Table.{entryAt, entryHolds, entriesFrom, tableOf}
 use Rattle.image.specs.Records.{recordHolds, recordsFrom, imageOf}
 use Rattle.image.specs.Rest.{restFrom, restOf}
 use Rattle.image.specs.Fetch.{instructionAt, fetchOf}
-use Rattle.inputs.specs.Checks.{windowHolds, stepVerdict}
+use Rattle.inputs.specs.Checks.{windowHolds, secondHolds, apartHolds, windowsVerdict, stepVerdict}
 use Rattle.accesses.specs.Reach.{alignedReach, reachOf}
 use Rattle.accesses.specs.Store.{storeOf}
 use Rattle.calls.specs.Saves.{calledThen, callOf, svlcxOf, bisrThen, bisrOf}
@@ -70,7 +70,7 @@ before m e (k ∷ ks) h l c area p =
 
 -- its one store: ST.W at byte 320, of four bytes
 away : Apart (listed begun) (start .memory) StW 320
-unfolding placedAt
+unfolding placedAt placedIn
 away l c area p k a b d e =
     let t = before (start .memory) 320 (listed begun) ((0, refl, omega arith), ((64, refl, omega arith), ((128, refl, omega arith), ((192, refl, omega arith), ((256, refl, omega arith), tt))))) l c area p in
     omega (arith, t, a, e)
@@ -80,6 +80,6 @@ still s h = record { stores = s; heads = h }
 
 -- the fifth step is refused
 pub quiet : AllQuiet (listed begun) (allArgs calls start)
-unfolding bit isSet counterBits counts overflowsUp underflowsDown nested calledOf icrOf pcxiOf requests clearedOf wordAt wordsAt putWord putWords plusOf placedAt upperOf lowerOf roomAt takeOf saveAtOf saveOf loadOf returnOf stackOf enteredOf trapEntry interruptEntry interruptOf trapOf fcdOf betterOf bestBelow takes clearedAt enables permits firstOf anyFrom checkOf operationOf entryAt entryHolds entriesFrom tableOf recordHolds recordsFrom imageOf restFrom restOf instructionAt fetchOf windowHolds stepVerdict calledThen callOf svlcxOf bisrThen bisrOf previousOf retOf rfeOf rslcxOf contextOp alignedReach reachOf storeOf actOf finishOf executeOf instructionOf oneOf requestsOf stepOf runFrom runOf runArgs stepHeads decisionOf
+unfolding bit isSet counterBits counts overflowsUp underflowsDown nested calledOf icrOf pcxiOf requests clearedOf wordAt wordsAt putWord putWords plusOf placedAt placedIn upperOf lowerOf roomAt takeOf saveAtOf saveOf loadOf returnOf stackOf enteredOf trapEntry interruptEntry interruptOf trapOf fcdOf betterOf bestBelow takes clearedAt enables permits firstOf anyFrom checkOf operationOf entryAt entryHolds entriesFrom tableOf recordHolds recordsFrom imageOf restFrom restOf instructionAt fetchOf windowHolds secondHolds apartHolds windowsVerdict stepVerdict calledThen callOf svlcxOf bisrThen bisrOf previousOf retOf rfeOf rslcxOf contextOp alignedReach reachOf storeOf actOf finishOf executeOf instructionOf oneOf requestsOf stepOf runFrom runOf runArgs stepHeads decisionOf
 quiet =
     (still tt refl, (still tt refl, (still away refl, (still tt refl, (tt, (still tt refl, (still tt refl, (still tt refl, (still tt refl, (still tt refl, (still tt refl, (still tt refl, tt))))))))))))

@@ -2,7 +2,7 @@
 use Prim.Native.Nat.{ℕ, _/_, _%_, _^_}
 use mathlib.Core.List.{List, [], _∷_, _++_}
 use lib.ListN.{replicate}
-use Rattle.memory.specs.Memory.{memory}
+use Rattle.memory.specs.Memory.{lent}
 use Rattle.registers.specs.Registers.{registers}
 use Rattle.series.specs.Calls.{State, state}
 
@@ -40,4 +40,4 @@ window = inBytes (linked 0xD_0001) ++ inBytes (linked 0xD_0002) ++ inBytes (link
 
 -- the window is at D0000000
 abbrev pub start : State
-start = state (registers startD startA startCore) (memory 0xD000_0000 window)
+start = state (registers startD startA startCore) (lent 0xD000_0000 window 0 [])

@@ -2,9 +2,11 @@
 
 use deqbaryn_tests::model::event::answer::PERMITS;
 use deqbaryn_tests::model::image::{build, Body, Record};
+use deqbaryn_tests::model::operations::Operation;
+use deqbaryn_tests::model::windows::{link_of, Windows};
 use deqbaryn_tests::model::{checks, machine};
-use deqbaryn_tests::worked::{record, Worked, BASE};
-use deqbaryn_tests::{host, inputs, model::operations::Operation, workloads};
+use deqbaryn_tests::worked::{areas, record, Worked, BASE};
+use deqbaryn_tests::{host, inputs, workloads};
 use std::hint::black_box;
 use std::time::{Duration, Instant};
 
@@ -47,14 +49,22 @@ fn image(bodies: usize, records: usize) -> Vec<u8> {
     )
 }
 
-/// A window of 1,024 areas, linked by strides: even ones on the free list, odd ones on the used one.
-fn window() -> Vec<u8> {
-    let mut window = vec![0; 65536];
-    for k in 0..1022u32 {
-        let at = 64 * k as usize;
-        window[at..at + 4].copy_from_slice(&(0xD_0000 + k + 2).to_le_bytes());
+/// Links areas by strides: the even ones are on one list, the odd ones on another. The heads are the first two.
+fn linked(windows: &mut Windows<Vec<u8>>, areas: &[u32]) -> (u32, u32) {
+    for (area, next) in areas.iter().zip(&areas[2..]) {
+        *windows.part_mut(*area).unwrap() = link_of(*next).to_le_bytes();
     }
-    window
+    (link_of(areas[0]), link_of(areas[1]))
+}
+
+/// The check of two lists that hold these areas.
+fn lists(mut windows: Windows<Vec<u8>>, areas: &[u32]) {
+    let (fcx, pcxi) = linked(&mut windows, areas);
+    let proved = || inputs::check_lists(black_box(&windows), fcx, pcxi);
+    let plain = || checks::windows(&windows).and_then(|()| checks::lists(black_box(&windows), fcx, pcxi));
+    assert_eq!((proved(), plain()), (Ok(()), Ok(())));
+    let count = areas.len() as u32;
+    line(&format!("area of two lists, {count} in all"), 256, count, shortest(256, proved, plain));
 }
 
 /// Steps of one run.
@@ -68,24 +78,24 @@ fn rate(what: &str, steps: u32, [proved, plain]: [Duration; 2]) {
 
 /// Both sides go on from where they were: no state is copied between the calls.
 fn steps(what: &str, worked: Worked, calls: u32, n: Option<u32>) {
-    let Worked { core, window, image } = worked;
-    let (mut proved, mut plain) = ((core.to_record(), window.clone()), (core.to_record(), window));
+    let Worked { core, windows, image } = worked;
+    let (mut proved, mut plain) = ((core.to_record(), windows.clone()), (core.to_record(), windows));
     let expected = n.map_or(0, |n| (n as u64) << 32);
     let best = shortest(
         calls,
         || {
-            let (core, window) = &mut proved;
+            let (core, windows) = &mut proved;
             let answer = match n {
-                Some(n) => host::run(core, BASE, window, black_box(&image), n),
-                None => host::step(core, BASE, window, black_box(&image)),
+                Some(n) => windows.run(host::run, core, black_box(&image), n),
+                None => windows.step(host::step, core, black_box(&image)),
             };
             assert_eq!(answer & !PERMITS, expected);
         },
         || {
-            let (core, window) = &mut plain;
+            let (core, windows) = &mut plain;
             let answer = match n {
-                Some(n) => machine::run(core, BASE, window, black_box(&image), n),
-                None => machine::step(core, BASE, window, black_box(&image)),
+                Some(n) => windows.run(machine::run, core, black_box(&image), n),
+                None => windows.step(machine::step, core, black_box(&image)),
             };
             assert_eq!(answer & !PERMITS, expected);
         },
@@ -105,21 +115,20 @@ fn main() {
         let calls = (262_144 / all).max(4);
         line(&format!("record of an image, {bodies} x {records}"), calls, all, shortest(calls, proved, plain));
     }
-    let window = window();
-    for (areas, fcx, pcxi) in [(1024, 0xD_0000, 0xD_0001), (8, 0xD_03F8, 0xD_03F9)] {
-        let proved = || inputs::check_lists(0xD000_0000, black_box(&window), fcx, pcxi);
-        let plain = || {
-            checks::window(0xD000_0000, window.len())
-                .and_then(|()| checks::lists(0xD000_0000, black_box(&window), fcx, pcxi))
-        };
-        assert_eq!((proved(), plain()), (Ok(()), Ok(())));
-        line(&format!("area of two lists, {areas} in all"), 256, areas, shortest(256, proved, plain));
-    }
+    let full = || vec![0; 65_536];
+    lists(Windows::one(BASE, full()), &areas(BASE, 1024));
+    lists(Windows::one(BASE, full()), &areas(BASE + 64 * 1016, 8));
+    // every link leads to the other window
+    let pairs = (0..512).flat_map(|k| [BASE + 128 * k, BASE + 65_536 + 128 * k]);
+    let crossing: Vec<u32> = pairs.flat_map(|area| [area, area + 64]).collect();
+    lists(Windows::new(BASE, full(), BASE + 65_536, full()), &crossing);
     println!("\n{:<40} {:>9} {:>9} {:>6}", "millions of steps a second", "proved", "plain", "ratio");
     for (what, worked) in [
         ("run, integer loop", workloads::integer()),
         ("run, load and store loop", workloads::loads_and_stores()),
         ("run, call and return loop", workloads::calls()),
+        ("run, load and store loop, second window", workloads::in_second_window(workloads::loads_and_stores())),
+        ("run, call and return loop, second window", workloads::in_second_window(workloads::calls())),
         ("run, mix of seed 1", workloads::mix(1)),
         ("run, mix of seed 2", workloads::mix(2)),
         ("run, mix of seed 2, protection on", workloads::protected(workloads::mix(2))),

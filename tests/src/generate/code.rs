@@ -83,6 +83,17 @@ fn some(draw: &mut Draw, plan: &Plan, at: u32) -> Record {
     record(draw, plan, op, at)
 }
 
+/// A pointer to an end of a window, and an access through it.
+fn border_access(draw: &mut Draw, plan: &Plan) -> [Record; 2] {
+    let pointer = draw.within(2, 7) as u8;
+    let op = draw.pick(&[LdB, LdBu, LdH, LdHu, LdW, LdW, LdA, StB, StH, StW, StW, StA]);
+    let c = draw.below(16) as u8;
+    [
+        Record { op: MovA as u8, c: pointer, a: 0, b: 16, imm: plan.border(draw) },
+        Record { op: op as u8, c, a: pointer, b: 0, imm: 0 },
+    ]
+}
+
 /// Passes over the instruction that trapped.
 const SKIP: Record = Record { op: AddA as u8, c: 11, a: 11, b: 16, imm: 4 };
 
@@ -93,6 +104,10 @@ fn plain(op: Operation) -> Record {
 fn main_body(draw: &mut Draw, plan: &Plan) -> Body {
     let count = draw.within(8, 40);
     let mut records: Vec<Record> = (0..count).map(|k| some(draw, plan, plan.main + 4 * k)).collect();
+    if draw.percent(40) {
+        let at = draw.below(count - 2) as usize;
+        records[at..at + 2].copy_from_slice(&border_access(draw, plan));
+    }
     let back = (4 * (count - 1)).wrapping_neg();
     records[count as usize - 1] = Record { imm: back, ..plain(J) };
     Body { load: plan.main, records }

@@ -2,11 +2,13 @@
 
 pub mod code;
 pub mod draw;
+pub mod layout;
 pub mod plan;
 pub mod state;
 pub mod window;
 
 use crate::model::core::{Range, RECORD};
+use crate::model::windows::Windows;
 use draw::Draw;
 use plan::Plan;
 
@@ -34,8 +36,7 @@ pub struct Call {
 }
 
 pub struct Series {
-    pub base: u32,
-    pub window: Vec<u8>,
+    pub windows: Windows<Vec<u8>>,
     pub core: [u8; RECORD],
     pub images: Vec<Vec<u8>>,
     pub calls: Vec<Call>,
@@ -63,34 +64,18 @@ fn call(draw: &mut Draw, plan: &Plan) -> Call {
     }
 }
 
-/// A window or base that rule 1 refuses.
-fn refused_window(draw: &mut Draw, series: &mut Series) {
-    match draw.below(6) {
-        0 => series.base += draw.within(1, 63),
-        1 => series.base = draw.pick(&[0xE000_0000, 0xF000_0000, 0xFFFF_FFC0]),
-        2 => series.window.push(0),
-        3 => series.window.clear(),
-        4 => series.window = vec![0; 65_600],
-        _ => {
-            series.base = 0xDFFF_FFC0;
-            series.window.resize(128, 0);
-        }
-    }
-}
-
 pub fn series(seed: u64) -> Series {
     let draw = &mut Draw::new(seed);
     let plan = Plan::new(draw);
-    let (mut window, fcx, pcxi) = window::window(draw, &plan);
+    let (mut windows, fcx, pcxi) = window::windows(draw, &plan);
     let mut core = state::core(draw, &plan, fcx, pcxi);
     if !plan.tame && draw.percent(60) {
-        window::damage(draw, &plan, &mut window, &mut core);
+        window::damage(draw, &plan, &mut windows, &mut core);
     }
     let images = vec![code::image(draw, &plan), code::image(draw, &plan), code::damaged(draw, &plan)];
     let calls = (0..draw.within(3, 30)).map(|_| call(draw, &plan)).collect();
-    let mut series = Series { base: plan.base, window, core: core.to_record(), images, calls };
-    if draw.percent(3) {
-        refused_window(draw, &mut series);
+    if draw.percent(4) {
+        layout::refused(draw, &mut windows);
     }
-    series
+    Series { windows, core: core.to_record(), images, calls }
 }

@@ -4,6 +4,7 @@ use super::draw::Draw;
 use super::plan::Plan;
 use crate::model::core::{Core, Range};
 use crate::model::fields::LINK;
+use crate::model::windows::link_of;
 
 pub fn psw(draw: &mut Draw) -> u32 {
     let flags = draw.word() & 0xF800_0000;
@@ -32,9 +33,10 @@ pub fn request(draw: &mut Draw) -> u32 {
     priority | bits | unnamed
 }
 
-/// A range: for data around the window, for code around the bodies.
+/// A range: for data around a window, for code around the bodies.
 pub fn range(draw: &mut Draw, plan: &Plan, code: bool) -> Range {
-    let (from, length) = if code { (plan.main, 0x400) } else { (plan.base, plan.length as u32) };
+    let window = plan.window(draw);
+    let (from, length) = if code { (plan.main, 0x400) } else { (window.base, window.length()) };
     let near = |draw: &mut Draw| match draw.below(4) {
         0 => from.wrapping_add(draw.below(length + 16)).wrapping_sub(8),
         _ if code => plan.code_address(draw),
@@ -81,9 +83,9 @@ fn lcx(draw: &mut Draw, plan: &Plan) -> u32 {
     let n = plan.free.len();
     let link = match draw.below(20) {
         _ if n == 0 => 0,
-        0..3 => plan.free[0],
-        3..12 => plan.free[draw.below(n.min(5) as u32) as usize],
-        12..15 => plan.free[n - 1],
+        0..3 => link_of(plan.free[0]),
+        3..12 => link_of(plan.free[draw.below(n.min(5) as u32) as usize]),
+        12..15 => link_of(plan.free[n - 1]),
         15..18 => 0,
         _ => plan.stray_link(draw),
     };

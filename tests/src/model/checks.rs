@@ -1,6 +1,7 @@
-//! Rules 1 to 6.
+//! Rules 1 to 6 and 13.
 
 use super::image::word;
+use super::windows::{address_of, Place, Window, Windows};
 
 /// A refusal by its number and place.
 #[derive(Debug, Clone, Copy, PartialEq, Eq)]
@@ -13,8 +14,9 @@ fn refuse(number: u32, place: u32) -> Result<(), Refusal> {
     Err(Refusal { number, place })
 }
 
-/// Rule 1: the window.
-pub fn window(base: u32, len: usize) -> Result<(), Refusal> {
+/// Rule 1 of one window.
+fn window(Window { base, bytes }: &Window<impl AsRef<[u8]>>) -> Result<(), Refusal> {
+    let (base, len) = (*base, bytes.as_ref().len());
     let fits = (64..=65536).contains(&len)
         && len % 64 == 0
         && base % 64 == 0
@@ -25,6 +27,20 @@ pub fn window(base: u32, len: usize) -> Result<(), Refusal> {
     } else {
         refuse(1, 0)
     }
+}
+
+/// Rule 1 of the first window and of the second, then rule 13. A second window of length 0 passes both.
+pub fn windows(Windows { first, second }: &Windows<impl AsRef<[u8]>>) -> Result<(), Refusal> {
+    window(first)?;
+    let (len, second_len) = (first.bytes.as_ref().len() as u32, second.bytes.as_ref().len() as u32);
+    if second_len == 0 {
+        return Ok(());
+    }
+    window(second)?;
+    if first.base < second.base + second_len && second.base < first.base + len {
+        return refuse(13, 0);
+    }
+    Ok(())
 }
 
 /// Rule 2: the table of contents.
@@ -77,34 +93,30 @@ pub fn image(image: &[u8]) -> Result<(), Refusal> {
     records(image)
 }
 
-/// The byte offset of a link's area in the window, if it lies wholly in it.
-pub fn area(base: u32, len: usize, link: u32) -> Option<usize> {
-    let address = (link & 0xF_0000) << 12 | (link & 0xFFFF) << 6;
-    let offset = address.checked_sub(base)? as usize;
-    (offset + 64 <= len).then_some(offset)
-}
-
-/// Rules 5 and 6: the free list, then the used one, where rule 1 holds.
-pub fn lists(base: u32, window: &[u8], fcx: u32, pcxi: u32) -> Result<(), Refusal> {
-    let mut met = [false; 1024];
+/// Rules 5 and 6: the free list, then the used one, where rules 1 and 13 hold.
+pub fn lists(windows: &Windows<impl AsRef<[u8]>>, fcx: u32, pcxi: u32) -> Result<(), Refusal> {
+    let (mut met, mut met_in_second) = ([false; 1024], [false; 1024]);
     for head in [fcx, pcxi] {
         let mut link = head & 0xF_FFFF;
         while link != 0 {
-            let Some(at) = area(base, window.len(), link) else {
-                return refuse(5, 0);
+            let area = address_of(link);
+            let met = match windows.find(area, 64) {
+                Some(Place::First(at)) => &mut met[at / 64],
+                Some(Place::Second(at)) => &mut met_in_second[at / 64],
+                None => return refuse(5, 0),
             };
-            if std::mem::replace(&mut met[at / 64], true) {
+            if std::mem::replace(met, true) {
                 return refuse(6, 0);
             }
-            link = word(window, at) & 0xF_FFFF;
+            link = u32::from_le_bytes(*windows.part(area).unwrap()) & 0xF_FFFF;
         }
     }
     Ok(())
 }
 
-/// Rules 1 to 4.
-pub fn step(base: u32, memory: &[u8], bytes: &[u8], pc: u32) -> Result<(), Refusal> {
-    window(base, memory.len())?;
+/// Rules 1, 13 and 2 to 4.
+pub fn step(lent: &Windows<impl AsRef<[u8]>>, bytes: &[u8], pc: u32) -> Result<(), Refusal> {
+    windows(lent)?;
     image(bytes)?;
     if pc % 2 == 1 {
         return refuse(4, 0);
@@ -112,8 +124,8 @@ pub fn step(base: u32, memory: &[u8], bytes: &[u8], pc: u32) -> Result<(), Refus
     Ok(())
 }
 
-/// All six rules.
-pub fn start(base: u32, memory: &[u8], bytes: &[u8], pc: u32, fcx: u32, pcxi: u32) -> Result<(), Refusal> {
-    step(base, memory, bytes, pc)?;
-    lists(base, memory, fcx, pcxi)
+/// All seven rules.
+pub fn start(lent: &Windows<impl AsRef<[u8]>>, bytes: &[u8], pc: u32, fcx: u32, pcxi: u32) -> Result<(), Refusal> {
+    step(lent, bytes, pc)?;
+    lists(lent, fcx, pcxi)
 }

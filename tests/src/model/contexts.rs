@@ -1,48 +1,50 @@
 //! Saves, returns, and the entries of interrupts and traps.
 
-use super::checks::area;
 use super::depth;
 use super::event::{Event, Stop, Trap, Undone, CSU, CTYP, FCD};
 use super::fields::{icr, pcxi, psw, request, LINK};
 use super::image::word;
 use super::machine::Machine;
 use super::observer::{Half, Observer};
+use super::windows::address_of;
 
 /// An area found for a save, with all that could stop the step already tried.
 #[derive(Clone, Copy)]
 pub struct Found {
     link: u32,
-    at: usize,
     depletes: bool,
 }
 
 impl<O: Observer> Machine<'_, O> {
-    fn locate(&self, link: u32) -> Result<usize, Stop> {
-        area(self.base, self.window.len(), link).ok_or(Stop::Outside)
+    /// The first word of the area that a link names.
+    #[inline(always)]
+    fn first_word(&self, link: u32) -> Result<u32, Stop> {
+        let area: &[u8; 64] = self.windows.part(address_of(link)).ok_or(Stop::Outside)?;
+        Ok(word(area, 0))
     }
 
-    fn free_area(&self, fcx: u32) -> Result<usize, Stop> {
+    fn free_area(&self, fcx: u32) -> Result<u32, Stop> {
         match fcx & LINK {
             0 => Err(Stop::NoArea),
-            link => self.locate(link),
+            link => self.first_word(link),
         }
     }
 
     /// The area of this step's save; where it depletes the list, the FCD entry's area is known to be there too.
     pub fn find(&self) -> Result<Found, Stop> {
         let link = self.core.fcx & LINK;
-        let at = self.free_area(link)?;
+        let next = self.free_area(link)?;
         let depletes = link == self.core.lcx & LINK;
         if depletes {
-            self.free_area(word(self.window, at))?;
+            self.free_area(next)?;
         }
-        Ok(Found { link, at, depletes })
+        Ok(Found { link, depletes })
     }
 
     fn save(&mut self, half: Half, second: u32, found: Found) {
         self.observer.saves(half, &self.core);
         let core = &mut self.core;
-        let area = &mut self.window[found.at..found.at + 64];
+        let area: &mut [u8; 64] = self.windows.part_mut(address_of(found.link)).expect("found");
         core.fcx = word(area, 0) & LINK;
         let (a, d, ul) = match half {
             Half::Upper => (&core.a[10..16], &core.d[8..16], pcxi::UL),
@@ -88,8 +90,7 @@ impl<O: Observer> Machine<'_, O> {
             return event;
         }
         let link = self.core.fcx & LINK;
-        let at = self.locate(link).expect("found before the first save");
-        self.enter_trap(FCD, self.core.pc, Found { link, at, depletes: false });
+        self.enter_trap(FCD, self.core.pc, Found { link, depletes: false });
         Event::Trap(FCD)
     }
 
@@ -135,8 +136,7 @@ impl<O: Observer> Machine<'_, O> {
     /// Loads the area at PCXI, and answers its second word.
     fn load(&mut self, half: Half) -> Result<u32, Stop> {
         let link = self.core.pcxi & LINK;
-        let at = self.locate(link)?;
-        let area = &mut self.window[at..at + 64];
+        let area: &mut [u8; 64] = self.windows.part_mut(address_of(link)).ok_or(Stop::Outside)?;
         let mut words = [0; 16];
         for (word, bytes) in words.iter_mut().zip(area.as_chunks().0) {
             *word = u32::from_le_bytes(*bytes);

@@ -40,7 +40,7 @@ pub enum Event {
 pub enum Stop {
     /// 11: a save with FCX link 0.
     NoArea,
-    /// 12: a save or return whose area lies outside the window.
+    /// 12: a save or return whose area lies in neither window.
     Outside,
 }
 

@@ -8,12 +8,13 @@ use super::fields::{icr, request};
 use super::observer::Observer;
 use super::operations::Operation::{Syscall, Trapsv, Trapv};
 use super::protection::{Access, Permits};
+use super::windows::Windows;
 
 /// A machine whose inputs were accepted.
+#[repr(C)]
 pub struct Machine<'a, O> {
     pub core: Core,
-    pub base: u32,
-    pub window: &'a mut [u8],
+    pub windows: Windows<&'a mut [u8]>,
     pub observer: O,
     code: Code<'a>,
     /// Priority number and source of the foremost request, or `UNKNOWN`.
@@ -33,8 +34,8 @@ fn foremost(requests: &[u32; 16]) -> (u32, usize) {
 }
 
 impl<'a, O: Observer> Machine<'a, O> {
-    pub fn new(core: Core, base: u32, window: &'a mut [u8], image: &'a [u8], observer: O) -> Self {
-        Machine { core, base, window, observer, code: Code::new(image), foremost: UNKNOWN }
+    pub fn new(core: Core, windows: Windows<&'a mut [u8]>, image: &'a [u8], observer: O) -> Self {
+        Machine { core, windows, observer, code: Code::new(image), foremost: UNKNOWN }
     }
 
     #[inline(always)]
@@ -92,12 +93,13 @@ fn word_of(outcome: Result<Event, Stop>) -> u64 {
     outcome.map_or_else(answer::stop, answer::event)
 }
 
-pub fn start(record: &[u8], base: u32, window: &[u8], image: &[u8]) -> u64 {
+pub fn start(record: &[u8], base: u32, window: &[u8], second_base: u32, second: &[u8], image: &[u8]) -> u64 {
     let Ok(record) = record.try_into() else {
         return answer::WRONG_LENGTH;
     };
     let core = Core::from_record(record);
-    match checks::start(base, window, image, core.pc, core.fcx, core.pcxi) {
+    let windows = Windows::new(base, window, second_base, second);
+    match checks::start(&windows, image, core.pc, core.fcx, core.pcxi) {
         Ok(()) => answer::ACCEPTED,
         Err(refusal) => answer::refused(refusal),
     }
@@ -106,8 +108,7 @@ pub fn start(record: &[u8], base: u32, window: &[u8], image: &[u8]) -> u64 {
 /// Steps with a watcher: the answer of `work` on the machine, where the inputs are accepted.
 fn attempt<O: Observer>(
     record: &mut [u8],
-    base: u32,
-    window: &mut [u8],
+    windows: Windows<&mut [u8]>,
     image: &[u8],
     observer: O,
     work: impl FnOnce(&mut Machine<O>) -> u64,
@@ -115,39 +116,46 @@ fn attempt<O: Observer>(
     let Ok(record): Result<&mut [u8; RECORD], _> = record.try_into() else {
         return answer::WRONG_LENGTH;
     };
-    if let Err(refusal) = checks::step(base, window, image, Core::pc_of(record)) {
+    if let Err(refusal) = checks::step(&windows, image, Core::pc_of(record)) {
         return answer::refused(refusal);
     }
-    let mut machine = Machine::new(Core::from_record(record), base, window, image, observer);
+    let mut machine = Machine::new(Core::from_record(record), windows, image, observer);
     let answer = work(&mut machine);
     machine.core.update_record(record);
     answer
 }
 
-pub fn step_observed(record: &mut [u8], base: u32, window: &mut [u8], image: &[u8], observer: impl Observer) -> u64 {
-    attempt(record, base, window, image, (observer, Permits::default()), |machine| {
+pub fn step_observed(record: &mut [u8], windows: Windows<&mut [u8]>, image: &[u8], observer: impl Observer) -> u64 {
+    attempt(record, windows, image, (observer, Permits::default()), |machine| {
         word_of(machine.step()) | answer::permits(machine.observer.1)
     })
 }
 
 pub fn run_observed(
     record: &mut [u8],
-    base: u32,
-    window: &mut [u8],
+    windows: Windows<&mut [u8]>,
     image: &[u8],
     n: u32,
     observer: impl Observer,
 ) -> u64 {
-    attempt(record, base, window, image, observer, |machine| {
+    attempt(record, windows, image, observer, |machine| {
         let (made, outcome) = machine.run(n);
         word_of(outcome) | (made as u64) << 32
     })
 }
 
-pub fn step(record: &mut [u8], base: u32, window: &mut [u8], image: &[u8]) -> u64 {
-    step_observed(record, base, window, image, ())
+pub fn step(record: &mut [u8], base: u32, window: &mut [u8], second_base: u32, second: &mut [u8], image: &[u8]) -> u64 {
+    step_observed(record, Windows::new(base, window, second_base, second), image, ())
 }
 
-pub fn run(record: &mut [u8], base: u32, window: &mut [u8], image: &[u8], n: u32) -> u64 {
-    run_observed(record, base, window, image, n, ())
+pub fn run(
+    record: &mut [u8],
+    base: u32,
+    window: &mut [u8],
+    second_base: u32,
+    second: &mut [u8],
+    image: &[u8],
+    n: u32,
+) -> u64 {
+    run_observed(record, Windows::new(base, window, second_base, second), image, n, ())
 }

@@ -7,16 +7,9 @@ use super::observer::Observer;
 use super::protection::Access;
 
 impl<O: Observer> Machine<'_, O> {
-    /// Where the bytes of an access lie in the window. `pointer` is A[c] for LD.A: its guard comes before the alignment.
+    /// The address of an access. `pointer` is A[c] for LD.A: its guard comes before the alignment.
     #[inline(always)]
-    fn reach(
-        &mut self,
-        i: Instruction,
-        access: Access,
-        size: usize,
-        align: u32,
-        pointer: Option<usize>,
-    ) -> Result<usize, Trap> {
+    fn reach(&mut self, i: Instruction, access: Access, align: u32, pointer: Option<usize>) -> Result<u32, Trap> {
         let address = self.core.a[i.a].wrapping_add(i.immediate);
         let by = self.core.permit(access, address)?;
         self.observer.permitted(&self.core, access, address, by);
@@ -26,17 +19,13 @@ impl<O: Observer> Machine<'_, O> {
         if !address.is_multiple_of(align) {
             return Err(ALN);
         }
-        let offset = address.wrapping_sub(self.base) as usize;
-        if offset + size > self.window.len() {
-            return Err(DATA);
-        }
-        Ok(offset)
+        Ok(address)
     }
 
     #[inline(always)]
     fn read<const N: usize>(&mut self, i: Instruction, align: u32, pointer: Option<usize>) -> Result<[u8; N], Trap> {
-        let at = self.reach(i, Access::Read, N, align, pointer)?;
-        Ok(self.window[at..at + N].try_into().unwrap())
+        let address = self.reach(i, Access::Read, align, pointer)?;
+        self.windows.part(address).copied().ok_or(DATA)
     }
 
     #[inline(always)]
@@ -61,9 +50,9 @@ impl<O: Observer> Machine<'_, O> {
 
     #[inline(always)]
     pub fn store<const N: usize>(&mut self, i: Instruction, bytes: [u8; N], align: u32) -> Result<(), Trap> {
-        let at = self.reach(i, Access::Write, N, align, None)?;
-        self.window[at..at + N].copy_from_slice(&bytes);
-        self.observer.stored(at, N);
+        let address = self.reach(i, Access::Write, align, None)?;
+        *self.windows.part_mut(address).ok_or(DATA)? = bytes;
+        self.observer.stored(address, N);
         Ok(())
     }
 }

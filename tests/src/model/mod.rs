@@ -17,3 +17,4 @@ pub mod operations;
 pub mod pool;
 pub mod protection;
 pub mod system;
+pub mod windows;

@@ -24,8 +24,8 @@ pub trait Observer {
     fn enters(&mut self, _event: Event) {}
     /// A return was made, and left these registers.
     fn returned(&mut self, _half: Half, _core: &Core) {}
-    /// A store reached these bytes of the window.
-    fn stored(&mut self, _offset: usize, _size: usize) {}
+    /// A store reached so many bytes from an address on.
+    fn stored(&mut self, _address: u32, _size: usize) {}
     /// MTCR wrote FCX or PCXI.
     fn wrote_head(&mut self) {}
     /// How the step ended, and with which registers.
@@ -66,9 +66,9 @@ impl<A: Observer, B: Observer> Observer for (A, B) {
         self.1.returned(half, core);
     }
 
-    fn stored(&mut self, offset: usize, size: usize) {
-        self.0.stored(offset, size);
-        self.1.stored(offset, size);
+    fn stored(&mut self, address: u32, size: usize) {
+        self.0.stored(address, size);
+        self.1.stored(address, size);
     }
 
     fn wrote_head(&mut self) {

@@ -5,6 +5,7 @@ use super::core::Core;
 use super::event::Event;
 use super::image::word;
 use super::machine::Machine;
+use super::windows::Windows;
 use std::fmt::Write;
 
 const BASE: u32 = 0xD000_0000;
@@ -26,14 +27,14 @@ pub fn walk(image: &[u8]) -> String {
     if image.len() > 65_536 {
         return "long\n".into();
     }
-    let mut window = linked();
+    let mut windows = Windows::one(BASE, linked());
     let mut core = Core { psw: 0x0000_0B80, btv: 0x8001_0000, fcx: 0xD_0000, ..Core::default() };
     // rule 2 makes the first load address even
-    if let Err(refusal) = checks::start(BASE, &window, image, 0, core.fcx, core.pcxi) {
+    if let Err(refusal) = checks::start(&windows, image, 0, core.fcx, core.pcxi) {
         return format!("refused {} {}\n", refusal.number, refusal.place);
     }
     core.pc = word(image, 4);
-    let mut machine = Machine::new(core, BASE, &mut window, image, ());
+    let mut machine = Machine::new(core, windows.lent(), image, ());
     let mut text = String::from("event pc next fcx pcxi\n");
     let mut made = 0;
     while made < MOST_STEPS {

@@ -8,11 +8,11 @@ use Rattle.execute.proofs.execute_instruction.Tie as tie
 
 returns : tie.Need-returns
 unfolding executeOf finishOf
-returns c = let e = done-is (c .before .before .before .before .perform .result) (sym (c .before .is-done .ensures) ∙ c .if1 .taken) in (rw (← rw e at (c .before .before .before .before .perform .ensures .0)), rw e at (c .before .before .before .before .perform .ensures .1))
+returns c = let e = done-is (c .before .before .before .before .before .before .perform .result) (sym (c .before .is-done .ensures) ∙ c .if1 .taken) in (rw (← rw e at (c .before .before .before .before .before .before .perform .ensures .0)), rw e at (c .before .before .before .before .before .before .perform .ensures .1))
 
 returns-2 : tie.Need-returns-2
 unfolding executeOf
-returns-2 c = (rw (← c .before .before .before .before .before .before .before .before .before .before .before .perform .ensures .0) (c .before .before .finish .ensures), tt)
+returns-2 c = (rw (← c .before .before .before .before .before .before .before .before .before .before .before .before .before .before .before .before .perform .ensures .0) (c .before .before .before .before .finish .ensures), tt)
 
 pub execute-instruction-spec : {M : Type 1} → statement M
 execute-instruction-spec =
@@ -21,7 +21,9 @@ execute-instruction-spec =
     (λ c κs. search needs)
     (λ c κs. search needs)
     (λ c. search needs)
+    (λ c. search needs)
     returns
     (λ c κs. search needs)
+    (λ c. search needs)
     (λ c. search needs)
     returns-2)

@@ -14,15 +14,15 @@ returns-2 c = rw (c .enum-told2 .given .1)
 
 returns-3 : tie.Need-returns-3
 unfolding finishOf
-returns-3 c = rw (c .before .before .before .before .before .before .before .before .enum-told3 .given .1, c .passed-on .ensures) (c .before .before .before .enter-fcd .ensures)
+returns-3 c = rw (c .before .before .before .before .before .before .before .before .before .before .before .enum-told3 .given .1, c .passed-on .ensures) (c .before .before .before .before .before .enter-fcd .ensures)
 
 returns-4 : tie.Need-returns-4
 unfolding finishOf
-returns-4 c = rw (c .before .before .before .before .before .before .before .before .before .before .how .given .1, c .passed-on2 .ensures) (c .before .before .before .trap .ensures)
+returns-4 c = rw (c .before .before .before .before .before .before .before .before .before .before .before .before .before .how .given .1, c .passed-on2 .ensures) (c .before .before .before .before .before .trap .ensures)
 
 returns-5 : tie.Need-returns-5
 unfolding finishOf
-returns-5 c = rw (c .before .before .before .before .before .before .before .before .before .how2 .given .1, c .passed-on3 .ensures) (c .before .before .before .trap2 .ensures)
+returns-5 c = rw (c .before .before .before .before .before .before .before .before .before .before .before .before .how2 .given .1, c .passed-on3 .ensures) (c .before .before .before .before .before .trap2 .ensures)
 
 returns-6 : tie.Need-returns-6
 unfolding finishOf
@@ -48,9 +48,12 @@ finish-spec =
     returns
     returns-2
     (λ c. search needs)
+    (λ c. search needs)
     returns-3
     (λ c. search needs)
+    (λ c. search needs)
     returns-4
+    (λ c. search needs)
     (λ c. search needs)
     returns-5
     returns-6)

@@ -22,16 +22,16 @@ returns-3 : tie.Need-returns-3
 returns-3 c = (performs _ _ _ _ (c .before .before .before .before .before .op2 .given .1) (plain-ended (c .execute-move .ensures) (plain-move _ _ _) _), keeps-ended (c .execute-move .ensures) (plain-move _ _ _))
 
 returns-4 : tie.Need-returns-4
-returns-4 c = (performs _ _ _ _ (c .before .before .before .before .before .before .op3 .given .1) (plain-ended (c .execute-load .ensures) (plain-load _ _ _ _ _) _), keeps-ended (c .execute-load .ensures) (plain-load _ _ _ _ _))
+returns-4 c = (performs _ _ _ _ (c .before .before .before .before .before .before .before .op3 .given .1) (plain-ended (c .execute-load .ensures) (plain-load _ _ _ _ _) _), keeps-ended (c .execute-load .ensures) (plain-load _ _ _ _ _))
 
 returns-5 : tie.Need-returns-5
-returns-5 c = (performs _ _ _ _ (c .before .before .before .before .before .before .before .before .op4 .given .1) (store-did _ _ _ _ _ (c .before .before .execute-store .ensures)), store-keeps _ _ _ _ _ (c .before .before .execute-store .ensures))
+returns-5 c = (performs _ _ _ _ (c .before .before .before .before .before .before .before .before .before .before .before .op4 .given .1) (store-did _ _ _ _ _ (c .before .before .before .before .execute-store .ensures)), store-keeps _ _ _ _ _ (c .before .before .before .before .execute-store .ensures))
 
 returns-6 : tie.Need-returns-6
 returns-6 c = (performs _ _ _ _ (c .before .before .before .before .before .op5 .given .1) (plain-ended (c .execute-jump .ensures) (plain-jump _ _ _) _), keeps-ended (c .execute-jump .ensures) (plain-jump _ _ _))
 
 returns-7 : tie.Need-returns-7
-returns-7 c = (performs _ _ _ _ (c .before .before .before .before .before .before .before .before .op6 .given .1) (c .before .before .execute-context .ensures .0), c .before .before .execute-context .ensures .1)
+returns-7 c = (performs _ _ _ _ (c .before .before .before .before .before .before .before .before .before .before .before .op6 .given .1) (c .before .before .before .before .execute-context .ensures .0), c .before .before .before .before .execute-context .ensures .1)
 
 returns-8 : tie.Need-returns-8
 returns-8 c = (performs _ _ _ _ (c .before .before .before .before .before .op7 .given .1) (rw (← c .execute-system .ensures .0)), c .execute-system .ensures .1)
@@ -60,10 +60,13 @@ perform-spec =
     returns-2
     returns-3
     (λ c. search needs)
+    (λ c. search needs)
     returns-4
+    (λ c. search needs)
     (λ c. search needs)
     returns-5
     returns-6
+    (λ c. search needs)
     (λ c. search needs)
     returns-7
     returns-8)

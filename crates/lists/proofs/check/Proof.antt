@@ -3,7 +3,7 @@ use borrow.Author.Needs.{needs}
 use mathlib.Core.Path.{ap, _∙_}
 use mathlib.Core.Bool.{false}
 use lib.ListN.{length, replicate}
-use Rattle.memory.specs.Memory.{memory}
+use Rattle.memory.specs.Memory.{lent}
 use Rattle.lists.specs.Walk.{Walked, listsOf}
 use Rattle.lists.proofs.Fuel.{walk-length}
 use Rattle.lists.proofs.Lists.{lists-exactly}
@@ -13,9 +13,9 @@ use Rattle.lists.proofs.check.Tie as tie
 walk-requires-2 : tie.Need-walk-requires-2
 walk-requires-2 c κs =
     let d = c .before .before .before .before in
-    let a = d .before .before .before .before .args in
-    let n = walk-length 1025 (memory (a .base .0) (a .window .now)) (d .before .before .link-of .result) (replicate 1024 false) in
-    (d .before .before .before .before .pre, ap (λ (w : Walked). length (w .met)) (d .walk .ensures) ∙ n)
+    let a = d .before .before .before .before .before .args in
+    let n = walk-length 2049 (lent (a .base .0) (a .window .now) (a .base2 .0) (a .window2 .now)) (d .before .before .link-of .result) (replicate 2048 false) in
+    (d .before .before .before .before .before .pre, ap (λ (w : Walked). length (w .met)) (d .walk .ensures) ∙ n)
 
 returns : tie.Need-returns
 unfolding listsOf

@@ -1,12 +1,12 @@
 -- `lists::walk` meets its contract. The invariant: the walk from here on comes to what the whole walk comes to.
 -- The measure is the number of areas that are not met yet. Assumes nothing.
-use Prim.Native.Nat.{ℕ, _+_, _/_, _≤_}
+use Prim.Native.Nat.{ℕ, _/_, _≤_}
 use mathlib.Core.Path.{_≡_, refl, sym, ap, _∙_}
 use mathlib.Core.Bool.{true}
 use borrow.Author.Needs.{needs}
 use native.Mathlib.Omega.{arith}
 use lib.ListN.{length, set, length-set}
-use Rattle.memory.specs.Memory.{Memory, memory}
+use Rattle.memory.specs.Memory.{Memory, lent, Within}
 use Rattle.areas.specs.Link.{addressOf}
 use Rattle.areas.specs.Place.{placeOf}
 use Rattle.lists.specs.Walk.{walkOf}
@@ -19,16 +19,16 @@ use Rattle.lists.proofs.walk.Statement.{statement}
 use Rattle.lists.proofs.walk.Tie as tie
 
 abbrev Inv-loop : tie.InvT-loop
-Inv-loop window base met₀ n₀ met n =
-    (length met ≡ 1024) × (walkOf 1025 (memory (base .0) window) (record { 0 = n }) met ≡ walkOf 1025 (memory (base .0) window) (record { 0 = n₀ }) met₀)
+Inv-loop window base window2 base2 met₀ n₀ met n =
+    (length met ≡ 2048) × (walkOf 2049 (lent (base .0) window (base2 .0) window2) (record { 0 = n }) met ≡ walkOf 2049 (lent (base .0) window (base2 .0) window2) (record { 0 = n₀ }) met₀)
 
 abbrev μ-loop : tie.MeasureT-loop
-μ-loop window base met₀ n₀ met n = unmet met
+μ-loop window base window2 base2 met₀ n₀ met n = unmet met
 
 -- the area that the link names
 module _ (c : tie.After-known-told Inv-loop μ-loop) where
   abbrev mem : Memory
-  mem = memory (c .before .before .before .before .before .before .before .args .base .0) (c .before .before .before .before .before .before .before .args .window .now)
+  mem = lent (c .before .before .before .before .before .before .before .before .args .base .0) (c .before .before .before .before .before .before .before .before .args .window .now) (c .before .before .before .before .before .before .before .before .args .base2 .0) (c .before .before .before .before .before .before .before .before .args .window2 .now)
 
   abbrev link : Link
   link = record { 0 = c .before .before .before .before .before .loop .n }
@@ -39,26 +39,26 @@ module _ (c : tie.After-known-told Inv-loop μ-loop) where
   found : placeOf mem link ≡ At place
   found = cc
 
-  inside : place + 64 ≤ length (mem .bytes)
-  inside = placed-at (mem .base) (length (mem .bytes)) (addressOf link) place found .inside
+  lies : Within (mem .windows .split) (length (mem .bytes)) place 64
+  lies = placed-at (mem .windows) (length (mem .bytes)) (addressOf link) place found
 
-  small : length (mem .bytes) ≤ 65536
-  small = c .before .before .before .before .before .before .before .pre .0
+  small : length (mem .bytes) ≤ 131072
+  small = c .before .before .before .before .before .before .before .before .pre .0
 
 returns : tie.Need-returns Inv-loop μ-loop
 returns c =
-    let a = c .before .before .before .before .before .before .args in
+    let a = c .before .before .before .before .before .before .before .args in
     let l = c .before .before .before .before .loop in
-    let m = memory (a .base .0) (a .window .now) in
+    let m = lent (a .base .0) (a .window .now) (a .base2 .0) (a .window2 .now) in
     let k : Link = record { 0 = l .n } in
     let p : placeOf m k ≡ Outside = cc in
-    sym (walk-outside 1024 m k (l .met) (c .before .before .before .loop-test .taken) p) ∙ l .inv .1
+    sym (walk-outside 2048 m k (l .met) (c .before .before .before .loop-test .taken) p) ∙ l .inv .1
 
 returns-2 : tie.Need-returns-2 Inv-loop μ-loop
 returns-2 c =
     let d = c .before .before in
     let l = d .before .before .before .before .before .loop in
-    sym (walk-again 1024 (mem d) (link d) (l .met) (d .before .before .before .before .loop-test .taken) (place d) (found d) (c .if1 .taken)) ∙ l .inv .1
+    sym (walk-again 2048 (mem d) (link d) (l .met) (d .before .before .before .before .loop-test .taken) (place d) (found d) (c .if1 .taken)) ∙ l .inv .1
 
 loop-less : tie.Need-loop-less Inv-loop μ-loop
 loop-less c =
@@ -72,14 +72,14 @@ loop-again c =
     let l = d .before .before .before .before .before .loop in
     let on = walk-next (mem d) (link d) (l .met) (place d) (small d) (l .inv .0) (d .before .before .before .before .loop-test .taken) (found d) (c .before .if1 .left) in (
       simp length-set (l .inv .0),
-      ap (λ (k : Link). walkOf 1025 (mem d) k (set (l .met) (place d / 64) true)) (c .next-link .ensures) ∙ sym on ∙ l .inv .1,
+      ap (λ (k : Link). walkOf 2049 (mem d) k (set (l .met) (place d / 64) true)) (c .next-link .ensures) ∙ sym on ∙ l .inv .1,
     )
 
 returns-3 : tie.Need-returns-3 Inv-loop μ-loop
 returns-3 c =
-    let a = c .before .before .before .args in
+    let a = c .before .before .before .before .args in
     let l = c .before .loop in
-    sym (walk-whole 1024 (memory (a .base .0) (a .window .now)) (record { 0 = l .n }) (l .met) (c .loop-test .left)) ∙ l .inv .1
+    sym (walk-whole 2048 (lent (a .base .0) (a .window .now) (a .base2 .0) (a .window2 .now)) (record { 0 = l .n }) (l .met) (c .loop-test .left)) ∙ l .inv .1
 
 pub walk-spec : {M : Type 1} → statement M
 walk-spec =
@@ -87,15 +87,15 @@ walk-spec =
     (tie.spec
     Inv-loop
     μ-loop
-    (λ c. (c .before .pre .1, refl))
+    (λ c. (c .before .before .pre .1, refl))
     (λ c κs. search needs)
     (λ c. search needs)
     (λ c. search needs)
     returns
-    (λ c. omega (arith, inside c, small c))
+    (λ c. omega (arith, lies c .inside, small c))
     returns-2
-    (λ c. omega (arith, inside (c .before .before), small (c .before .before)))
-    (λ c κs. inside (c .before .before))
+    (λ c. omega (arith, lies (c .before .before) .inside, small (c .before .before)))
+    (λ c κs. lies (c .before .before))
     loop-less
     loop-again
     returns-3)

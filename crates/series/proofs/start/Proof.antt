@@ -1,7 +1,7 @@
 -- `series::start` meets its contract. Assumes nothing.
 use borrow.Author.Needs.{needs}
 use mathlib.Core.Path.{sym, _∙_}
-use Rattle.memory.specs.Memory.{memory}
+use Rattle.memory.specs.Memory.{lent}
 use Rattle.series.specs.Calls.{State, state}
 use Rattle.decisions.proofs.Known.{valid-of, bytes-of}
 use Rattle.series.proofs.Starts.{follows, start-even}
@@ -10,7 +10,7 @@ use Rattle.series.proofs.start.Tie as tie
 
 returns : tie.Need-returns
 returns c =
-    let s : State = state (c .before .before .before .before .before .before .args .t4) (memory (c .before .before .before .before .before .before .args .base .0) (c .before .before .before .before .before .before .args .window .now)) in
+    let s : State = state (c .before .before .before .before .before .before .args .t4) (lent (c .before .before .before .before .before .before .args .base .0) (c .before .before .before .before .before .before .args .window .now) (c .before .before .before .before .before .before .args .base2 .0) (c .before .before .before .before .before .before .args .window2 .now)) in
     let e = c .try-start .ensures .0 .0 in
     (c .try-start .ensures .0, λ a. follows s _ (sym e ∙ a) (valid-of (c .before .before .before .before .before .before .good .1 .1 .1 .0) (start-even s _ (sym e ∙ a))) (bytes-of (c .before .before .before .before .before .shared-slice-known .given)))
 

@@ -6,49 +6,49 @@ use Rattle.accesses.proofs.Reaches.{reach-inside}
 use Rattle.accesses.proofs.store.execute_store.Statement.{statement}
 use Rattle.accesses.proofs.store.execute_store.Tie as tie
 
-put-byte-requires : tie.Need-put-byte-requires
-put-byte-requires c κs = reach-inside _ _ _ _ _ _ _ _ _ _ (sym (c .before .before .before .before .before .reach-data .ensures) ∙ c .before .before .before .at .given .1)
+put-byte-in-requires : tie.Need-put-byte-in-requires
+put-byte-in-requires c κs = reach-inside _ _ _ _ _ _ _ _ _ _ (sym (c .before .before .before .before .before .before .reach-data .ensures) ∙ c .before .before .before .before .at .given .1)
 
-put-half-requires : tie.Need-put-half-requires
-put-half-requires c κs = reach-inside _ _ _ _ _ _ _ _ _ _ (sym (c .before .before .before .before .before .reach-data2 .ensures) ∙ c .before .before .before .at2 .given .1)
+put-half-in-requires : tie.Need-put-half-in-requires
+put-half-in-requires c κs = reach-inside _ _ _ _ _ _ _ _ _ _ (sym (c .before .before .before .before .before .before .reach-data2 .ensures) ∙ c .before .before .before .before .at2 .given .1)
 
-put-word-requires : tie.Need-put-word-requires
-put-word-requires c κs = reach-inside _ _ _ _ _ _ _ _ _ _ (sym (c .before .before .before .before .before .reach-data3 .ensures) ∙ c .before .before .before .at3 .given .1)
+put-word-in-requires : tie.Need-put-word-in-requires
+put-word-in-requires c κs = reach-inside _ _ _ _ _ _ _ _ _ _ (sym (c .before .before .before .before .before .before .reach-data3 .ensures) ∙ c .before .before .before .before .at3 .given .1)
 
-put-word-requires-2 : tie.Need-put-word-requires-2
-put-word-requires-2 c κs = reach-inside _ _ _ _ _ _ _ _ _ _ (sym (c .before .before .before .before .before .reach-data4 .ensures) ∙ c .before .before .before .at4 .given .1)
+put-word-in-requires-2 : tie.Need-put-word-in-requires-2
+put-word-in-requires-2 c κs = reach-inside _ _ _ _ _ _ _ _ _ _ (sym (c .before .before .before .before .before .before .reach-data4 .ensures) ∙ c .before .before .before .before .at4 .given .1)
 
 returns : tie.Need-returns
 unfolding storeOf
-returns c = rw (c .before .before .before .before .before .enum-told .given .1, ← c .before .before .before .before .before .before .before .plus .ensures, ← c .before .before .before .reach-data .ensures, c .before .t .given .1)
+returns c = rw (c .before .before .before .before .before .before .before .enum-told .given .1, ← c .before .before .before .before .before .before .before .before .before .plus .ensures, ← c .before .before .before .reach-data .ensures, c .before .t .given .1)
 
 returns-2 : tie.Need-returns-2
 unfolding storeOf
-returns-2 c = rw (c .before .before .before .before .before .before .before .before .before .before .enum-told .given .1, ← c .before .before .before .before .before .before .before .before .before .before .before .before .plus .ensures, ← c .before .before .before .before .before .before .before .before .reach-data .ensures, c .before .before .before .before .before .before .at .given .1, ← c .before .before .put-byte .ensures)
+returns-2 c = rw (c .before .before .before .before .before .before .before .before .before .before .before .before .before .before .before .enum-told .given .1, ← c .before .before .before .before .before .before .before .before .before .before .before .before .before .before .before .before .before .plus .ensures, ← c .before .before .before .before .before .before .before .before .before .before .before .reach-data .ensures, c .before .before .before .before .before .before .before .before .before .at .given .1, ← c .before .before .before .before .put-byte-in .ensures .0, c .before .before .before .before .put-byte-in .ensures .1)
 
 returns-3 : tie.Need-returns-3
 unfolding storeOf
-returns-3 c = rw (c .before .before .before .before .before .enum-told2 .given .1, ← c .before .before .before .before .before .before .before .plus .ensures, ← c .before .before .before .reach-data2 .ensures, c .before .t2 .given .1)
+returns-3 c = rw (c .before .before .before .before .before .before .before .enum-told2 .given .1, ← c .before .before .before .before .before .before .before .before .before .plus .ensures, ← c .before .before .before .reach-data2 .ensures, c .before .t2 .given .1)
 
 returns-4 : tie.Need-returns-4
 unfolding storeOf
-returns-4 c = rw (c .before .before .before .before .before .before .before .before .before .before .enum-told2 .given .1, ← c .before .before .before .before .before .before .before .before .before .before .before .before .plus .ensures, ← c .before .before .before .before .before .before .before .before .reach-data2 .ensures, c .before .before .before .before .before .before .at2 .given .1, ← c .before .before .put-half .ensures)
+returns-4 c = rw (c .before .before .before .before .before .before .before .before .before .before .before .before .before .before .before .enum-told2 .given .1, ← c .before .before .before .before .before .before .before .before .before .before .before .before .before .before .before .before .before .plus .ensures, ← c .before .before .before .before .before .before .before .before .before .before .before .reach-data2 .ensures, c .before .before .before .before .before .before .before .before .before .at2 .given .1, ← c .before .before .before .before .put-half-in .ensures .0, c .before .before .before .before .put-half-in .ensures .1)
 
 returns-5 : tie.Need-returns-5
 unfolding storeOf
-returns-5 c = rw (c .before .before .before .before .before .enum-told3 .given .1, ← c .before .before .before .before .before .before .before .plus .ensures, ← c .before .before .before .reach-data3 .ensures, c .before .t3 .given .1)
+returns-5 c = rw (c .before .before .before .before .before .before .before .enum-told3 .given .1, ← c .before .before .before .before .before .before .before .before .before .plus .ensures, ← c .before .before .before .reach-data3 .ensures, c .before .t3 .given .1)
 
 returns-6 : tie.Need-returns-6
 unfolding storeOf
-returns-6 c = rw (c .before .before .before .before .before .before .before .before .before .before .enum-told3 .given .1, ← c .before .before .before .before .before .before .before .before .before .before .before .before .plus .ensures, ← c .before .before .before .before .before .before .before .before .reach-data3 .ensures, c .before .before .before .before .before .before .at3 .given .1, ← c .before .before .put-word .ensures)
+returns-6 c = rw (c .before .before .before .before .before .before .before .before .before .before .before .before .before .before .before .enum-told3 .given .1, ← c .before .before .before .before .before .before .before .before .before .before .before .before .before .before .before .before .before .plus .ensures, ← c .before .before .before .before .before .before .before .before .before .before .before .reach-data3 .ensures, c .before .before .before .before .before .before .before .before .before .at3 .given .1, ← c .before .before .before .before .put-word-in .ensures .0, c .before .before .before .before .put-word-in .ensures .1)
 
 returns-7 : tie.Need-returns-7
 unfolding storeOf
-returns-7 c = rw (c .before .before .before .before .before .enum-told4 .given .1, ← c .before .before .before .before .before .before .before .plus .ensures, ← c .before .before .before .reach-data4 .ensures, c .before .t4 .given .1)
+returns-7 c = rw (c .before .before .before .before .before .before .before .enum-told4 .given .1, ← c .before .before .before .before .before .before .before .before .before .plus .ensures, ← c .before .before .before .reach-data4 .ensures, c .before .t4 .given .1)
 
 returns-8 : tie.Need-returns-8
 unfolding storeOf
-returns-8 c = rw (c .before .before .before .before .before .before .before .before .before .before .enum-told4 .given .1, ← c .before .before .before .before .before .before .before .before .before .before .before .before .plus .ensures, ← c .before .before .before .before .before .before .before .before .reach-data4 .ensures, c .before .before .before .before .before .before .at4 .given .1, ← c .before .before .put-word2 .ensures)
+returns-8 c = rw (c .before .before .before .before .before .before .before .before .before .before .before .before .before .before .before .enum-told4 .given .1, ← c .before .before .before .before .before .before .before .before .before .before .before .before .before .before .before .before .before .plus .ensures, ← c .before .before .before .before .before .before .before .before .before .before .before .reach-data4 .ensures, c .before .before .before .before .before .before .before .before .before .at4 .given .1, ← c .before .before .before .before .put-word-in2 .ensures .0, c .before .before .before .before .put-word-in2 .ensures .1)
 
 pub execute-store-spec : {M : Type 1} → statement M
 execute-store-spec =
@@ -63,7 +63,7 @@ execute-store-spec =
     (λ c. search needs)
     (λ c. search needs)
     (λ c. search needs)
-    put-byte-requires
+    put-byte-in-requires
     (λ c. search needs)
     (λ c. search needs)
     (λ c κs. search needs)
@@ -71,7 +71,7 @@ execute-store-spec =
     (λ c. search needs)
     (λ c. search needs)
     (λ c. search needs)
-    put-half-requires
+    put-half-in-requires
     (λ c. search needs)
     (λ c. search needs)
     (λ c κs. search needs)
@@ -79,7 +79,7 @@ execute-store-spec =
     (λ c. search needs)
     (λ c. search needs)
     (λ c. search needs)
-    put-word-requires
+    put-word-in-requires
     (λ c. search needs)
     (λ c. search needs)
     (λ c κs. search needs)
@@ -87,17 +87,29 @@ execute-store-spec =
     (λ c. search needs)
     (λ c. search needs)
     (λ c. search needs)
-    put-word-requires-2
+    put-word-in-requires-2
+    (λ c. search needs)
+    (λ c. search needs)
     (λ c. search needs)
     returns
     (λ c. search needs)
+    (λ c. search needs)
     returns-2
+    (λ c. search needs)
+    (λ c. search needs)
     returns-3
     (λ c. search needs)
+    (λ c. search needs)
     returns-4
+    (λ c. search needs)
+    (λ c. search needs)
     returns-5
     (λ c. search needs)
+    (λ c. search needs)
     returns-6
+    (λ c. search needs)
+    (λ c. search needs)
     returns-7
+    (λ c. search needs)
     (λ c. search needs)
     returns-8)

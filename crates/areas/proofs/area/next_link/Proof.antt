@@ -1,21 +1,31 @@
 -- `areas::area::next_link` meets its contract. Assumes nothing.
 use borrow.Author.Needs.{needs}
-use mathlib.Core.Path.{ap}
-use lib.ListN.{length}
-use Rattle.areas.proofs.Parts.{area-length, area-first}
 use native.Mathlib.Omega.{arith}
+use mathlib.Core.Path.{ap, _∙_}
+use lib.ListN.{length}
+use Rattle.memory.specs.Memory.{lent}
+use Rattle.areas.specs.Link.{addressOf}
+use Rattle.areas.proofs.Places.{placed-at}
+use Rattle.areas.proofs.Parts.{area-length, area-placed}
 use Rattle.areas.proofs.area.next_link.Statement.{statement}
 use Rattle.areas.proofs.area.next_link.Tie as tie
 
 word-at-requires : tie.Need-word-at-requires
 word-at-requires c κs =
-    let a = c .before .before .args in
-    omega (arith, ap length (c .area .ensures), area-length (a .window .now) (a .at) (omega arith))
+    let p = c .before .before .before in
+    let m = lent (p .args .base .0) (p .args .window .now) (p .args .base2 .0) (p .args .window2 .now) in
+    let at = p .pre .0 in
+    let w = placed-at (m .windows) (length (m .bytes)) (addressOf (p .args .l)) at (p .pre .1) in
+    omega (arith, ap length (c .area .ensures ∙ area-placed m (p .args .l) at (p .pre .1)), area-length (m .bytes) at (w .inside))
 
 returns : tie.Need-returns
-returns c =
-    let a = c .before .before .before .before .args in
-    rw (c .link-of .ensures, c .before .word-at .ensures, c .before .before .area .ensures, area-first (a .window .now) (a .at))
+returns c = rw (c .link-of .ensures, c .before .word-at .ensures, c .before .before .area .ensures)
 
 pub next-link-spec : {M : Type 1} → statement M
-next-link-spec = tie.close (tie.spec (λ c κs. search needs) word-at-requires (λ c κs. search needs) returns)
+next-link-spec =
+    tie.close
+    (tie.spec
+    (λ c κs. search needs)
+    word-at-requires
+    (λ c κs. search needs)
+    returns)

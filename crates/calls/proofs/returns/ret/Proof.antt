@@ -16,11 +16,11 @@ returns-2 c = (rw (← c .before .before .before .before .before .before .underf
 
 returns-3 : tie.Need-returns-3
 unfolding retOf
-returns-3 c = (rw (← c .before .before .before .before .before .before .before .before .before .before .before .before .before .before .before .before .before .before .underflows .ensures, c .before .before .before .before .before .before .before .before .before .before .before .before .before .before .before .before .before .if1 .left, ← c .before .before .before .before .before .before .before .before .before .before .before .before .before .before .before .previous-context .ensures, c .before .before .before .before .before .before .before .before .before .before .before .before .before .enum-told .given .1, ← c .before .before .before .before .restore .ensures, c .enum-told2 .given .1) refl, tt)
+returns-3 c = (rw (← c .before .before .before .before .before .before .before .before .before .before .before .before .before .before .before .before .before .before .before .before .before .underflows .ensures, c .before .before .before .before .before .before .before .before .before .before .before .before .before .before .before .before .before .before .before .before .if1 .left, ← c .before .before .before .before .before .before .before .before .before .before .before .before .before .before .before .before .before .before .previous-context .ensures, c .before .before .before .before .before .before .before .before .before .before .before .before .before .before .before .before .enum-told .given .1, ← c .before .before .before .before .before .before .restore .ensures, c .enum-told2 .given .1) refl, tt)
 
 returns-4 : tie.Need-returns-4
 unfolding retOf
-returns-4 c = (rw (← c .before .before .before .before .before .before .before .before .before .before .before .before .before .before .before .before .before .before .before .before .underflows .ensures, c .before .before .before .before .before .before .before .before .before .before .before .before .before .before .before .before .before .before .before .if1 .left, ← c .before .before .before .before .before .before .before .before .before .before .before .before .before .before .before .before .before .previous-context .ensures, c .before .before .before .before .before .before .before .before .before .before .before .before .before .before .before .enum-told .given .1, ← c .before .before .before .before .before .before .restore .ensures, c .before .before .enum-told3 .given .1, c .return-done .ensures, plainly-done, c .before .before .before .before .before .before .before .before .before .before .before .before .before .new-pc .ensures) refl, rw (c .return-done .ensures) (keeps-done _ _ _ _ _ _ _ (c .before .before .before .before .before .before .before .before .before .before .before .protection-set .ensures .0) (c .before .before .before .before .before .before .restore .ensures)))
+returns-4 c = (rw (← c .before .before .before .before .before .before .before .before .before .before .before .before .before .before .before .before .before .before .before .before .before .before .before .underflows .ensures, c .before .before .before .before .before .before .before .before .before .before .before .before .before .before .before .before .before .before .before .before .before .before .if1 .left, ← c .before .before .before .before .before .before .before .before .before .before .before .before .before .before .before .before .before .before .before .before .previous-context .ensures, c .before .before .before .before .before .before .before .before .before .before .before .before .before .before .before .before .before .before .enum-told .given .1, ← c .before .before .before .before .before .before .before .before .restore .ensures, c .before .before .enum-told3 .given .1, c .return-done .ensures, plainly-done, c .before .before .before .before .before .before .before .before .before .before .before .before .before .before .before .before .new-pc .ensures) refl, rw (c .return-done .ensures) (keeps-done _ _ _ _ _ _ _ (c .before .before .before .before .before .before .before .before .before .before .before .before .before .before .protection-set .ensures .0) (c .before .before .before .before .before .before .before .before .restore .ensures)))
 
 pub ret-spec : {M : Type 1} → statement M
 ret-spec =
@@ -45,6 +45,8 @@ ret-spec =
     (λ c κs. search needs)
     returns-2
     (λ c. search needs)
+    (λ c. search needs)
     returns-3
+    (λ c. search needs)
     (λ c. search needs)
     returns-4)

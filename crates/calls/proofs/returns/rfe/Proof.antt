@@ -15,11 +15,11 @@ returns-2 c = (rw (← c .before .before .before .previous-context .ensures, c .
 
 returns-3 : tie.Need-returns-3
 unfolding rfeOf
-returns-3 c = (rw (← c .before .before .before .before .before .before .before .before .before .before .before .before .before .before .before .before .before .before .before .before .before .before .previous-context .ensures, c .before .before .before .before .before .before .before .before .before .before .before .before .before .before .before .before .before .before .before .before .enum-told .given .1, ← c .before .before .before .before .before .before .before .before .before .before .before .before .before .before .before .before .before .before .in-call .ensures, c .before .before .before .before .before .before .before .before .before .before .before .before .before .before .before .before .before .if1 .left, ← c .before .before .before .before .restore .ensures, c .enum-told2 .given .1) refl, tt)
+returns-3 c = (rw (← c .before .before .before .before .before .before .before .before .before .before .before .before .before .before .before .before .before .before .before .before .before .before .before .before .before .previous-context .ensures, c .before .before .before .before .before .before .before .before .before .before .before .before .before .before .before .before .before .before .before .before .before .before .before .enum-told .given .1, ← c .before .before .before .before .before .before .before .before .before .before .before .before .before .before .before .before .before .before .before .before .before .in-call .ensures, c .before .before .before .before .before .before .before .before .before .before .before .before .before .before .before .before .before .before .before .before .if1 .left, ← c .before .before .before .before .before .before .restore .ensures, c .enum-told2 .given .1) refl, tt)
 
 returns-4 : tie.Need-returns-4
 unfolding rfeOf
-returns-4 c = (rw (← c .before .before .before .before .before .before .before .before .before .before .before .before .before .before .before .before .before .before .before .before .before .before .previous-context .ensures, c .before .before .before .before .before .before .before .before .before .before .before .before .before .before .before .before .before .before .before .before .enum-told .given .1, ← c .before .before .before .before .before .before .before .before .before .before .before .before .before .before .before .before .before .before .in-call .ensures, c .before .before .before .before .before .before .before .before .before .before .before .before .before .before .before .before .before .if1 .left, ← c .before .before .before .before .restore .ensures, c .enum-told3 .given .1, c .before .before .before .before .before .before .before .before .before .before .before .before .before .before .before .new-pc .ensures, c .before .before .before .before .before .before .before .before .before .written .ensures, c .before .before .before .before .before .before .before .before .before .before .before .before .interrupts .ensures, c .before .before .before .before .before .before .before .before .before .before .priority .ensures) refl, tt)
+returns-4 c = (rw (← c .before .before .before .before .before .before .before .before .before .before .before .before .before .before .before .before .before .before .before .before .before .before .before .before .before .previous-context .ensures, c .before .before .before .before .before .before .before .before .before .before .before .before .before .before .before .before .before .before .before .before .before .before .before .enum-told .given .1, ← c .before .before .before .before .before .before .before .before .before .before .before .before .before .before .before .before .before .before .before .before .before .in-call .ensures, c .before .before .before .before .before .before .before .before .before .before .before .before .before .before .before .before .before .before .before .before .if1 .left, ← c .before .before .before .before .before .before .restore .ensures, c .enum-told3 .given .1, c .before .before .before .before .before .before .before .before .before .before .before .before .before .before .before .before .before .before .new-pc .ensures, c .before .before .before .before .before .before .before .before .before .before .before .before .written .ensures, c .before .before .before .before .before .before .before .before .before .before .before .before .before .before .before .interrupts .ensures, c .before .before .before .before .before .before .before .before .before .before .before .before .before .priority .ensures) refl, tt)
 
 pub rfe-spec : {M : Type 1} → statement M
 rfe-spec =
@@ -47,6 +47,8 @@ rfe-spec =
     (λ c. search needs)
     returns-2
     (λ c. search needs)
+    (λ c. search needs)
     returns-3
+    (λ c. search needs)
     (λ c. search needs)
     returns-4)

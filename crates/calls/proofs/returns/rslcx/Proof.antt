@@ -13,11 +13,11 @@ returns c = (rw (← c .before .before .before .previous-context .ensures, c .be
 
 returns-2 : tie.Need-returns-2
 unfolding rslcxOf
-returns-2 c = (rw (← c .before .before .before .before .before .before .before .before .before .before .before .previous-context .ensures, c .before .before .before .before .before .before .before .before .before .enum-told .given .1, ← c .before .before .before .before .restore .ensures, c .enum-told2 .given .1) refl, tt)
+returns-2 c = (rw (← c .before .before .before .before .before .before .before .before .before .before .before .before .before .before .previous-context .ensures, c .before .before .before .before .before .before .before .before .before .before .before .before .enum-told .given .1, ← c .before .before .before .before .before .before .restore .ensures, c .enum-told2 .given .1) refl, tt)
 
 returns-3 : tie.Need-returns-3
 unfolding rslcxOf
-returns-3 c = (rw (← c .before .before .before .before .before .before .before .before .before .before .before .previous-context .ensures, c .before .before .before .before .before .before .before .before .before .enum-told .given .1, ← c .before .before .before .before .restore .ensures, c .enum-told3 .given .1) refl, steady-then _ _ _ (return-steady _ (c .before .before .before .before .restore .ensures)) (steady-pc _ _))
+returns-3 c = (rw (← c .before .before .before .before .before .before .before .before .before .before .before .before .before .before .previous-context .ensures, c .before .before .before .before .before .before .before .before .before .before .before .before .enum-told .given .1, ← c .before .before .before .before .before .before .restore .ensures, c .enum-told3 .given .1) refl, steady-then _ _ _ (return-steady _ (c .before .before .before .before .before .before .restore .ensures)) (steady-pc _ _))
 
 pub rslcx-spec : {M : Type 1} → statement M
 rslcx-spec =
@@ -33,6 +33,8 @@ rslcx-spec =
     (λ c. search needs)
     returns
     (λ c. search needs)
+    (λ c. search needs)
     returns-2
+    (λ c. search needs)
     (λ c. search needs)
     returns-3)

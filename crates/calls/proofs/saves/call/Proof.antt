@@ -14,15 +14,15 @@ returns c = (rw (← c .before .overflows .ensures, c .if1 .taken) refl, tt)
 
 returns-2 : tie.Need-returns-2
 unfolding callOf
-returns-2 c = (rw (← c .before .before .before .before .before .before .before .before .before .before .before .overflows .ensures, c .before .before .before .before .before .before .before .before .before .before .if1 .left, ← c .before .before .before .before .before .save-upper .ensures, c .before .s .given .1) refl, tt)
+returns-2 c = (rw (← c .before .before .before .before .before .before .before .before .before .before .before .before .before .before .overflows .ensures, c .before .before .before .before .before .before .before .before .before .before .before .before .before .if1 .left, ← c .before .before .before .before .before .before .before .save-upper .ensures, c .before .s .given .1) refl, tt)
 
 returns-3 : tie.Need-returns-3
 unfolding callOf
-returns-3 c = (rw (← c .before .before .before .before .before .before .before .before .before .before .before .before .before .before .overflows .ensures, c .before .before .before .before .before .before .before .before .before .before .before .before .before .if1 .left, ← c .before .before .before .before .before .before .before .before .save-upper .ensures, c .before .before .before .before .enum-told .given .1, ← c .set-called .ensures) refl, rw (c .set-called .ensures) (steady-then _ _ _ (save-steady _ _ _ (c .before .before .before .before .before .before .before .before .save-upper .ensures)) (called-steady _ _ _)))
+returns-3 c = (rw (← c .before .before .before .before .before .before .before .before .before .before .before .before .before .before .before .before .before .overflows .ensures, c .before .before .before .before .before .before .before .before .before .before .before .before .before .before .before .before .if1 .left, ← c .before .before .before .before .before .before .before .before .before .before .save-upper .ensures, c .before .before .before .before .enum-told .given .1, ← c .set-called .ensures) refl, rw (c .set-called .ensures) (steady-then _ _ _ (save-steady _ _ _ (c .before .before .before .before .before .before .before .before .before .before .save-upper .ensures)) (called-steady _ _ _)))
 
 returns-4 : tie.Need-returns-4
 unfolding callOf
-returns-4 c = (rw (← c .before .before .before .before .before .before .before .before .before .before .before .before .before .before .overflows .ensures, c .before .before .before .before .before .before .before .before .before .before .before .before .before .if1 .left, ← c .before .before .before .before .before .before .before .before .save-upper .ensures, c .before .before .before .before .enum-told2 .given .1, ← c .set-called2 .ensures) refl, tt)
+returns-4 c = (rw (← c .before .before .before .before .before .before .before .before .before .before .before .before .before .before .before .before .before .overflows .ensures, c .before .before .before .before .before .before .before .before .before .before .before .before .before .before .before .before .if1 .left, ← c .before .before .before .before .before .before .before .before .before .before .save-upper .ensures, c .before .before .before .before .enum-told2 .given .1, ← c .set-called2 .ensures) refl, tt)
 
 pub call-spec : {M : Type 1} → statement M
 call-spec =
@@ -38,8 +38,11 @@ call-spec =
     (λ c. search needs)
     (λ c κs. search needs)
     (λ c. search needs)
+    (λ c. search needs)
     returns-2
     (λ c. search needs)
+    (λ c. search needs)
     returns-3
+    (λ c. search needs)
     (λ c. search needs)
     returns-4)

@@ -7,7 +7,7 @@ use Rattle.contexts.proofs.save.save.Statement.{statement}
 use Rattle.contexts.proofs.save.save.Tie as tie
 
 save-at-requires : tie.Need-save-at-requires
-save-at-requires c κs = room-inside _ _ _ _ (sym (c .before .before .before .before .before .find .ensures) ∙ c .before .before .before .at .given .1)
+save-at-requires c κs = room-inside _ _ _ _ (sym (c .before .before .before .before .before .before .find .ensures) ∙ c .before .before .before .before .at .given .1)
 
 returns : tie.Need-returns
 unfolding saveOf
@@ -15,7 +15,7 @@ returns c = rw (← c .before .before .before .find .ensures, c .before .s .give
 
 returns-2 : tie.Need-returns-2
 unfolding saveOf
-returns-2 c = rw (← c .before .before .before .before .before .before .before .before .find .ensures, c .before .before .before .before .before .before .at .given .1) (c .before .before .save-at .ensures)
+returns-2 c = rw (← c .before .before .before .before .before .before .before .before .before .before .before .find .ensures, c .before .before .before .before .before .before .before .before .before .at .given .1) (c .before .before .before .before .save-at .ensures)
 
 pub save-spec : {M : Type 1} → statement M
 save-spec =
@@ -26,6 +26,9 @@ save-spec =
     (λ c. search needs)
     (λ c. search needs)
     save-at-requires
+    (λ c. search needs)
+    (λ c. search needs)
     returns
+    (λ c. search needs)
     (λ c. search needs)
     returns-2)

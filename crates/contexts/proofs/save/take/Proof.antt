@@ -6,7 +6,7 @@ use Rattle.contexts.proofs.save.take.Tie as tie
 
 returns : tie.Need-returns
 unfolding takeOf
-returns c = rw (c .before .before .before .before .before .before .before .before .next-link .ensures, c .saved .ensures, c .before .before .ul .ensures, c .before .before .before .before .before .before .write-area .ensures)
+returns c = (rw (c .before .before .before .before .before .before .before .before .before .before .before .next-link .ensures, c .saved .ensures, c .before .before .ul .ensures, c .before .before .before .before .before .before .before .before .write-area .ensures .0), c .before .before .before .before .before .before .before .before .write-area .ensures .1)
 
 pub take-spec : {M : Type 1} → statement M
 take-spec =
@@ -18,6 +18,7 @@ take-spec =
     (λ c κs. search needs)
     (λ c. search needs)
     (λ c κs. search needs)
+    (λ c. search needs)
     (λ c. search needs)
     (λ c. search needs)
     (λ c. search needs)

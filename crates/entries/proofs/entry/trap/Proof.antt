@@ -6,12 +6,13 @@ use Rattle.entries.proofs.entry.trap.Tie as tie
 
 returns : tie.Need-returns
 unfolding trapOf
-returns c = c .before .before .enter .ensures
+returns c = c .before .before .before .before .enter .ensures
 
 pub trap-spec : {M : Type 1} → statement M
 trap-spec =
     tie.close
     (tie.spec
     (λ c κs. search needs)
+    (λ c. search needs)
     (λ c. search needs)
     returns)

@@ -1,7 +1,7 @@
 -- `inputs::checks::check_lists` meets its contract. Assumes nothing.
 use borrow.Author.Needs.{needs}
 use mathlib.Core.Path.{refl}
-use Rattle.memory.specs.Memory.{memory}
+use Rattle.memory.specs.Memory.{lent}
 use Rattle.inputs.specs.Rules.{WindowOf}
 use Rattle.inputs.proofs.Single.{lists-verdict-exactly}
 use Rattle.inputs.proofs.checks.check_lists.Statement.{statement}
@@ -10,7 +10,7 @@ use Rattle.inputs.proofs.checks.check_lists.Tie as tie
 try-lists-requires : tie.Need-try-lists-requires
 try-lists-requires c κs =
     let a = c .before .before .before .before .args in
-    let w : WindowOf (memory (a .base .0) (a .window .now)) = rw (c .enum-told .given .1) at (c .before .before .check-window .ensures .0 .1 .says) in
+    let w : WindowOf (lent (a .base .0) (a .window .now) (a .base2 .0) (a .window2 .now)) = rw (c .enum-told .given .1) at (c .before .before .check-window .ensures .0 .1 .says) in
     w .most
 
 returns : tie.Need-returns

@@ -1,7 +1,7 @@
 -- `inputs::checks::try_start` meets its contract. Assumes nothing.
 use borrow.Author.Needs.{needs}
 use mathlib.Core.Path.{_≡_, refl}
-use Rattle.memory.specs.Memory.{memory}
+use Rattle.memory.specs.Memory.{lent}
 use Rattle.inputs.specs.Checks.{startVerdict}
 use Rattle.inputs.specs.Rules.{StepSays}
 use Rattle.inputs.specs.declared.verdict.Verdict.the-variants.{Accepted, Refused}
@@ -11,20 +11,20 @@ use Rattle.inputs.proofs.checks.try_start.Tie as tie
 
 try-lists-requires : tie.Need-try-lists-requires
 try-lists-requires c κs =
-    let s : StepSays (memory (c .before .before .before .before .before .args .base .0) (c .before .before .before .before .before .args .window .now)) (c .before .before .before .before .before .args .image .now) (c .before .before .before .before .before .args .pc) Accepted = rw (c .enum-told .given .1) at (c .before .before .try-step .ensures .0 .1 .says) in
+    let s : StepSays (lent (c .before .before .before .before .before .args .base .0) (c .before .before .before .before .before .args .window .now) (c .before .before .before .before .before .args .base2 .0) (c .before .before .before .before .before .args .window2 .now)) (c .before .before .before .before .before .args .image .now) (c .before .before .before .before .before .args .pc) Accepted = rw (c .enum-told .given .1) at (c .before .before .try-step .ensures .0 .1 .says) in
     s .window .most
 
 returns : tie.Need-returns
 unfolding startVerdict
 returns c =
-    let e : Refused (c .before .r .given .0 .0) ≡ startVerdict (memory (c .before .before .before .before .before .before .args .base .0) (c .before .before .before .before .before .before .args .window .now)) (c .before .before .before .before .before .before .args .image .now) (c .before .before .before .before .before .before .args .pc) (c .before .before .before .before .before .before .args .fcx) (c .before .before .before .before .before .before .args .pcxi) = rw (← c .before .before .before .try-step .ensures .0 .0, c .before .r .given .1) in
-    (start-exactly (memory (c .before .before .before .before .before .before .args .base .0) (c .before .before .before .before .before .before .args .window .now)) (c .before .before .before .before .before .before .args .image .now) (c .before .before .before .before .before .before .args .pc) (c .before .before .before .before .before .before .args .fcx) (c .before .before .before .before .before .before .args .pcxi) _ e, (refl, refl))
+    let e : Refused (c .before .r .given .0 .0) ≡ startVerdict (lent (c .before .before .before .before .before .before .args .base .0) (c .before .before .before .before .before .before .args .window .now) (c .before .before .before .before .before .before .args .base2 .0) (c .before .before .before .before .before .before .args .window2 .now)) (c .before .before .before .before .before .before .args .image .now) (c .before .before .before .before .before .before .args .pc) (c .before .before .before .before .before .before .args .fcx) (c .before .before .before .before .before .before .args .pcxi) = rw (← c .before .before .before .try-step .ensures .0 .0, c .before .r .given .1) in
+    (start-exactly (lent (c .before .before .before .before .before .before .args .base .0) (c .before .before .before .before .before .before .args .window .now) (c .before .before .before .before .before .before .args .base2 .0) (c .before .before .before .before .before .before .args .window2 .now)) (c .before .before .before .before .before .before .args .image .now) (c .before .before .before .before .before .before .args .pc) (c .before .before .before .before .before .before .args .fcx) (c .before .before .before .before .before .before .args .pcxi) _ e, (refl, refl))
 
 returns-2 : tie.Need-returns-2
 unfolding startVerdict
 returns-2 c =
-    let e : c .try-lists .result ≡ startVerdict (memory (c .before .before .before .before .before .before .args .base .0) (c .before .before .before .before .before .before .args .window .now)) (c .before .before .before .before .before .before .args .image .now) (c .before .before .before .before .before .before .args .pc) (c .before .before .before .before .before .before .args .fcx) (c .before .before .before .before .before .before .args .pcxi) = rw (← c .before .before .before .try-step .ensures .0 .0, c .before .enum-told .given .1) (c .try-lists .ensures) in
-    (start-exactly (memory (c .before .before .before .before .before .before .args .base .0) (c .before .before .before .before .before .before .args .window .now)) (c .before .before .before .before .before .before .args .image .now) (c .before .before .before .before .before .before .args .pc) (c .before .before .before .before .before .before .args .fcx) (c .before .before .before .before .before .before .args .pcxi) _ e, (refl, refl))
+    let e : c .try-lists .result ≡ startVerdict (lent (c .before .before .before .before .before .before .args .base .0) (c .before .before .before .before .before .before .args .window .now) (c .before .before .before .before .before .before .args .base2 .0) (c .before .before .before .before .before .before .args .window2 .now)) (c .before .before .before .before .before .before .args .image .now) (c .before .before .before .before .before .before .args .pc) (c .before .before .before .before .before .before .args .fcx) (c .before .before .before .before .before .before .args .pcxi) = rw (← c .before .before .before .try-step .ensures .0 .0, c .before .enum-told .given .1) (c .try-lists .ensures) in
+    (start-exactly (lent (c .before .before .before .before .before .before .args .base .0) (c .before .before .before .before .before .before .args .window .now) (c .before .before .before .before .before .before .args .base2 .0) (c .before .before .before .before .before .before .args .window2 .now)) (c .before .before .before .before .before .before .args .image .now) (c .before .before .before .before .before .before .args .pc) (c .before .before .before .before .before .before .args .fcx) (c .before .before .before .before .before .before .args .pcxi) _ e, (refl, refl))
 
 pub try-start-spec : {M : Type 1} → statement M
 try-start-spec =

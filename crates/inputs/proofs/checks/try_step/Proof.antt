@@ -1,7 +1,7 @@
 -- `inputs::checks::try_step` meets its contract. Assumes nothing.
 use borrow.Author.Needs.{needs}
 use mathlib.Core.Path.{_≡_, refl}
-use Rattle.memory.specs.Memory.{memory}
+use Rattle.memory.specs.Memory.{lent}
 use Rattle.inputs.specs.Checks.{stepVerdict}
 use Rattle.inputs.specs.declared.verdict.Verdict.the-variants.{Refused}
 use Rattle.inputs.proofs.Verdicts.{step-exactly}
@@ -11,20 +11,20 @@ use Rattle.inputs.proofs.checks.try_step.Tie as tie
 returns : tie.Need-returns
 unfolding stepVerdict
 returns c =
-    let e : Refused (c .before .r .given .0 .0) ≡ stepVerdict (memory (c .before .before .before .before .before .before .args .base .0) (c .before .before .before .before .before .before .args .window .now)) (c .before .before .before .before .before .before .args .image .now) (c .before .before .before .before .before .before .args .pc) = rw (← c .before .before .before .check-window .ensures .0 .0, c .before .r .given .1) in
-    (step-exactly (memory (c .before .before .before .before .before .before .args .base .0) (c .before .before .before .before .before .before .args .window .now)) (c .before .before .before .before .before .before .args .image .now) (c .before .before .before .before .before .before .args .pc) _ e, (refl, refl))
+    let e : Refused (c .before .r .given .0 .0) ≡ stepVerdict (lent (c .before .before .before .before .before .before .args .base .0) (c .before .before .before .before .before .before .args .window .now) (c .before .before .before .before .before .before .args .base2 .0) (c .before .before .before .before .before .before .args .window2 .now)) (c .before .before .before .before .before .before .args .image .now) (c .before .before .before .before .before .before .args .pc) = rw (← c .before .before .before .check-window .ensures .0 .0, c .before .r .given .1) in
+    (step-exactly (lent (c .before .before .before .before .before .before .args .base .0) (c .before .before .before .before .before .before .args .window .now) (c .before .before .before .before .before .before .args .base2 .0) (c .before .before .before .before .before .before .args .window2 .now)) (c .before .before .before .before .before .before .args .image .now) (c .before .before .before .before .before .before .args .pc) _ e, (refl, refl))
 
 returns-2 : tie.Need-returns-2
 unfolding stepVerdict
 returns-2 c =
-    let e : Refused (c .before .r2 .given .0 .0) ≡ stepVerdict (memory (c .before .before .before .before .before .before .before .before .before .args .base .0) (c .before .before .before .before .before .before .before .before .before .args .window .now)) (c .before .before .before .before .before .before .before .before .before .args .image .now) (c .before .before .before .before .before .before .before .before .before .args .pc) = rw (← c .before .before .before .before .before .before .check-window .ensures .0 .0, c .before .before .before .before .enum-told .given .1, ← c .before .before .before .check-image .ensures .0 .0, c .before .r2 .given .1) in
-    (step-exactly (memory (c .before .before .before .before .before .before .before .before .before .args .base .0) (c .before .before .before .before .before .before .before .before .before .args .window .now)) (c .before .before .before .before .before .before .before .before .before .args .image .now) (c .before .before .before .before .before .before .before .before .before .args .pc) _ e, (refl, refl))
+    let e : Refused (c .before .r2 .given .0 .0) ≡ stepVerdict (lent (c .before .before .before .before .before .before .before .before .before .args .base .0) (c .before .before .before .before .before .before .before .before .before .args .window .now) (c .before .before .before .before .before .before .before .before .before .args .base2 .0) (c .before .before .before .before .before .before .before .before .before .args .window2 .now)) (c .before .before .before .before .before .before .before .before .before .args .image .now) (c .before .before .before .before .before .before .before .before .before .args .pc) = rw (← c .before .before .before .before .before .before .check-window .ensures .0 .0, c .before .before .before .before .enum-told .given .1, ← c .before .before .before .check-image .ensures .0 .0, c .before .r2 .given .1) in
+    (step-exactly (lent (c .before .before .before .before .before .before .before .before .before .args .base .0) (c .before .before .before .before .before .before .before .before .before .args .window .now) (c .before .before .before .before .before .before .before .before .before .args .base2 .0) (c .before .before .before .before .before .before .before .before .before .args .window2 .now)) (c .before .before .before .before .before .before .before .before .before .args .image .now) (c .before .before .before .before .before .before .before .before .before .args .pc) _ e, (refl, refl))
 
 returns-3 : tie.Need-returns-3
 unfolding stepVerdict
 returns-3 c =
-    let e : c .check-pc .result ≡ stepVerdict (memory (c .before .before .before .before .before .before .before .before .before .args .base .0) (c .before .before .before .before .before .before .before .before .before .args .window .now)) (c .before .before .before .before .before .before .before .before .before .args .image .now) (c .before .before .before .before .before .before .before .before .before .args .pc) = rw (← c .before .before .before .before .before .before .check-window .ensures .0 .0, c .before .before .before .before .enum-told .given .1, ← c .before .before .before .check-image .ensures .0 .0, c .before .enum-told2 .given .1) (c .check-pc .ensures .0) in
-    (step-exactly (memory (c .before .before .before .before .before .before .before .before .before .args .base .0) (c .before .before .before .before .before .before .before .before .before .args .window .now)) (c .before .before .before .before .before .before .before .before .before .args .image .now) (c .before .before .before .before .before .before .before .before .before .args .pc) _ e, (refl, refl))
+    let e : c .check-pc .result ≡ stepVerdict (lent (c .before .before .before .before .before .before .before .before .before .args .base .0) (c .before .before .before .before .before .before .before .before .before .args .window .now) (c .before .before .before .before .before .before .before .before .before .args .base2 .0) (c .before .before .before .before .before .before .before .before .before .args .window2 .now)) (c .before .before .before .before .before .before .before .before .before .args .image .now) (c .before .before .before .before .before .before .before .before .before .args .pc) = rw (← c .before .before .before .before .before .before .check-window .ensures .0 .0, c .before .before .before .before .enum-told .given .1, ← c .before .before .before .check-image .ensures .0 .0, c .before .enum-told2 .given .1) (c .check-pc .ensures .0) in
+    (step-exactly (lent (c .before .before .before .before .before .before .before .before .before .args .base .0) (c .before .before .before .before .before .before .before .before .before .args .window .now) (c .before .before .before .before .before .before .before .before .before .args .base2 .0) (c .before .before .before .before .before .before .before .before .before .args .window2 .now)) (c .before .before .before .before .before .before .before .before .before .args .image .now) (c .before .before .before .before .before .before .before .before .before .args .pc) _ e, (refl, refl))
 
 pub try-step-spec : {M : Type 1} → statement M
 try-step-spec =

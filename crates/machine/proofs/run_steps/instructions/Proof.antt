@@ -1,7 +1,7 @@
 -- `machine::run_steps::instructions` meets its contract. Assumes nothing.
 use borrow.Author.Needs.{needs}
 use mathlib.Core.Path.{refl, sym, _∙_}
-use Rattle.memory.specs.Memory.{memory}
+use Rattle.memory.specs.Memory.{lent}
 use Rattle.registers.specs.Registers.{registers}
 use Rattle.machine.proofs.Turns.{image-holds}
 use Rattle.machine.proofs.Walks.{stands-first, ends-after}
@@ -9,13 +9,13 @@ use Rattle.machine.proofs.run_steps.instructions.Statement.{statement}
 use Rattle.machine.proofs.run_steps.instructions.Tie as tie
 
 look-ahead-requires : tie.Need-look-ahead-requires
-look-ahead-requires c κs = image-holds _ _ _ (c .before .before .before .pre .0 .accepted)
+look-ahead-requires c κs = image-holds _ _ _ (c .before .before .before .before .pre .0 .accepted)
 
 steady-steps-requires : tie.Need-steady-steps-requires
-steady-steps-requires c κs = let p = rw (c .before .before .before .before .before .s .given .1) at (c .before .before .before .before .before .before .before .look-ahead .ensures) in (c .before .before .before .before .before .before .before .before .before .before .before .pre .0, (p .2, (p .0, p .1, c .before .before .before .before .before .before .before .before .before .before .before .pre .1)))
+steady-steps-requires c κs = let p = rw (c .before .before .before .before .before .before .s .given .1) at (c .before .before .before .before .before .before .before .before .look-ahead .ensures) in (c .before .before .before .before .before .before .before .before .before .before .before .before .before .pre .0, (p .2, (p .0, p .1, c .before .before .before .before .before .before .before .before .before .before .before .before .before .pre .1)))
 
 returns : tie.Need-returns
-returns c = let p = rw (c .before .before .before .before .before .before .before .before .before .before .t .given .1) at (c .before .before .before .before .before .before .before .before .before .before .before .before .look-ahead .ensures) in rw (c .after-one .ensures) (ends-after _ _ _ _ _ (stands-first _ _ _ _ _ (c .before .before .before .before .before .before .before .before .before .before .before .before .before .before .before .before .pre .1) (c .before .before .before .before .before .before .before .before .before .before .before .before .before .before .before .before .pre .0)) (c .before .before .before .trap .ensures ∙ sym (p (registers (c .before .before .before .before .before .before .before .before .before .before .before .before .before .before .before .before .args .d .now) (c .before .before .before .before .before .before .before .before .before .before .before .before .before .before .before .before .args .a .now) (c .before .before .before .before .before .before .before .before .before .before .before .before .before .before .before .before .args .core .now)) (memory (c .before .before .before .before .before .before .before .before .before .before .before .before .before .before .before .before .args .base) (c .before .before .before .before .before .before .before .before .before .before .before .before .before .before .before .before .args .window .now)) refl)))
+returns c = let p = rw (c .before .before .before .before .before .before .before .before .before .before .before .before .before .t .given .1) at (c .before .before .before .before .before .before .before .before .before .before .before .before .before .before .before .look-ahead .ensures) in rw (c .after-one .ensures) (ends-after _ _ _ _ _ (stands-first _ _ _ _ _ (c .before .before .before .before .before .before .before .before .before .before .before .before .before .before .before .before .before .before .before .before .pre .1) (c .before .before .before .before .before .before .before .before .before .before .before .before .before .before .before .before .before .before .before .before .pre .0)) (c .before .before .before .before .before .trap .ensures ∙ sym (p (registers (c .before .before .before .before .before .before .before .before .before .before .before .before .before .before .before .before .before .before .before .before .args .d .now) (c .before .before .before .before .before .before .before .before .before .before .before .before .before .before .before .before .before .before .before .before .args .a .now) (c .before .before .before .before .before .before .before .before .before .before .before .before .before .before .before .before .before .before .before .before .args .core .now)) (lent (c .before .before .before .before .before .before .before .before .before .before .before .before .before .before .before .before .before .before .before .before .args .base) (c .before .before .before .before .before .before .before .before .before .before .before .before .before .before .before .before .before .before .before .before .args .window .now) (c .before .before .before .before .before .before .before .before .before .before .before .before .before .before .before .before .before .before .before .before .args .base2) (c .before .before .before .before .before .before .before .before .before .before .before .before .before .before .before .before .before .before .before .before .args .window2 .now)) refl)))
 
 pub instructions-spec : {M : Type 1} → statement M
 instructions-spec =
@@ -29,6 +29,8 @@ instructions-spec =
     (λ c. search needs)
     steady-steps-requires
     (λ c. search needs)
+    (λ c. search needs)
     returns
+    (λ c. search needs)
     (λ c. search needs)
     (λ c. search needs))

@@ -1,5 +1,8 @@
 //! What a series of steps has met.
 
+pub mod extents;
+pub mod windows;
+
 use crate::model::code::Instruction;
 use crate::model::core::Core;
 use crate::model::event::{Event, Stop, FCD, SYS_CLASS, TRAPS};
@@ -11,10 +14,11 @@ use crate::model::operations::Operation::{self, Adds, AddsU, Subs, SubsU};
 use crate::model::operations::NAMES;
 use crate::model::protection::Access;
 use std::fmt;
+use windows::WindowCounts;
 
 /// Numbers of stops that exist, and of refusals.
 const STOPS: [u8; 2] = [11, 12];
-const REFUSALS: [u8; 6] = [1, 2, 3, 4, 5, 6];
+const REFUSALS: [u8; 7] = [1, 13, 2, 3, 4, 5, 6];
 /// The operations with saturation.
 const SATURATING: [Operation; 4] = [Adds, AddsU, Subs, SubsU];
 
@@ -49,6 +53,7 @@ pub struct Coverage {
     /// By PRS, IO, IS, GW, CDE, and by CDC.
     psw: [u64; 128],
     cdc: [u64; 128],
+    pub windows: WindowCounts,
 }
 
 impl Default for Coverage {
@@ -76,6 +81,7 @@ impl Default for Coverage {
             saturated: [[0; 2]; 4],
             psw: [0; 128],
             cdc: [0; 128],
+            windows: WindowCounts::default(),
         }
     }
 }
@@ -226,9 +232,14 @@ impl Coverage {
         fields.chain(self.cdc.iter().enumerate().map(|(k, n)| (format!("CDC {k:07b}"), *n))).collect()
     }
 
+    /// What of the windows was met least.
+    pub fn fewest_of_windows(&self) -> (String, u64) {
+        self.windows.counts().into_iter().min_by_key(|(_, n)| *n).unwrap()
+    }
+
     /// What was never met.
     pub fn missing(&self) -> Vec<String> {
-        let all = self.counts().into_iter().chain(self.patterns());
+        let all = self.counts().into_iter().chain(self.patterns()).chain(self.windows.counts());
         all.filter(|(_, n)| *n == 0).map(|(name, _)| name).collect()
     }
 }
@@ -241,6 +252,12 @@ impl fmt::Display for Coverage {
         for row in self.counts().chunks(4) {
             for (name, n) in row {
                 write!(f, "{name:<26}{n:>9}   ")?;
+            }
+            writeln!(f)?;
+        }
+        for row in self.windows.counts().chunks(3) {
+            for (name, n) in row {
+                write!(f, "{name:<41}{n:>9}   ")?;
             }
             writeln!(f)?;
         }

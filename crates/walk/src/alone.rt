@@ -1,0 +1,48 @@
+// The machine with one window: the second has no bytes.
+
+use crate::start::BASE;
+use areas::link::Address;
+use inputs::checks::try_start;
+use inputs::verdict::Verdict;
+use machine::answer::Stepped;
+use machine::steps::step_accepted;
+use protection::range::Range;
+use registers::Registers;
+ghost use mathlib.Core.Path.{_≡_};
+ghost use Rattle.inputs.specs.Checks.{startVerdict};
+ghost use Rattle.machine.specs.Step.{stepped, stepOf};
+ghost use Rattle.machine.specs.Inner.{Ready};
+ghost use Rattle.walk.specs.Start.{alone};
+
+const NONE: Address = Address(0);
+
+pub fn try_alone(window: &[u8], image: &[u8], pc: u32, fcx: u32, pcxi: u32) -> Verdict
+    ensures { λ r. ⌜ r ≡ startVerdict (alone (now (window .entry))) (now (image .entry)) pc fcx pcxi ⌝ }
+{
+    let none = [0; 0];
+    try_start(BASE, window, NONE, &none, image, pc, fcx, pcxi)
+}
+
+pub fn step_alone(
+    window: &mut [u8],
+    image: &[u8],
+    registers: Registers,
+    requests: [u32; 16],
+    ranges: [Range; 32],
+) -> Stepped
+    requires { ⌜ Ready (now image) registers (alone (now window)) ⌝ }
+    ensures { λ r. ⌜ stepped (r .outcome) (r .registers) (r .requests) (alone (now (window .exit))) ≡ stepOf (now (image .entry)) registers requests ranges (alone (now (window .entry))) ⌝ }
+    ensures { λ r. ⌜ Ready (now (image .entry)) (r .registers) (alone (now (window .exit))) ⌝ }
+{
+    let mut none = [0; 0];
+    step_accepted(
+        BASE,
+        window,
+        NONE,
+        &mut none,
+        image,
+        registers,
+        requests,
+        ranges,
+    )
+}
