@@ -19,7 +19,7 @@ use Rattle.areas.specs.declared.link.Link.{Link}
 use Rattle.areas.specs.declared.link.Place.the-variants.{At}
 use Rattle.areas.specs.declared.link.Spot.{Spot}
 use Rattle.areas.specs.declared.link.Spot.the-variants.{First, Second, Neither}
-use Rattle.areas.proofs.Places.{place-of-spot, lies-first}
+use Rattle.areas.proofs.Places.{place-of-spot, lies-first, placed-at}
 
 -- the part as the code takes it
 pub part-64 : (at : ℕ) (s : List ℕ) → take (at + 64 - at) (drop at s) ≡ areaAt s at
@@ -53,8 +53,12 @@ unfolding areaOf
 area-placed m l at p = ap (areaBy (m .bytes)) p
 
 -- ---- reading
-pub area-length : (s : List ℕ) (at : ℕ) → at + 64 ≤ length s → length (areaAt s at) ≡ 64
+area-length : (s : List ℕ) (at : ℕ) → at + 64 ≤ length s → length (areaAt s at) ≡ 64
 area-length s at h = length-take-le 64 (drop at s) (simp length-drop (omega arith))
+
+pub area-64 : (m : Memory) (l : Link) (at : ℕ) → placeOf m l ≡ At at → length (areaOf m l) ≡ 64
+area-64 m l at p =
+    ap length (area-placed m l at p) ∙ area-length (m .bytes) at (placed-at (m .windows) (length (m .bytes)) (addressOf l) at p .inside)
 
 area-byte : (s : List ℕ) (at i : ℕ) → i < 64 → getD (areaAt s at) i 0 ≡ getD s (at + i) 0
 area-byte s at i h = rw (getD-take, getD-drop)

@@ -1,6 +1,6 @@
 -- The area for a save: which area it is, and that it lies in a window.
 -- Assumes nothing.
-use Prim.Native.Nat.{ℕ}
+use Prim.Native.Nat.{ℕ, _%_, _^_}
 use native.Mathlib.Omega.{arith}
 use mathlib.Core.Path.{_≡_, refl, sym, ap, _∙_}
 use mathlib.Core.Bool.{Bool, true, false, cond}
@@ -40,6 +40,11 @@ room-at w len word at e = by (eqb (linkOf word .0) 0) refl e
 
 pub room-inside : (w : Windows) (len word at : ℕ) → roomAt w len word ≡ room.At at → Within (w .split) len at 64
 room-inside w len word at e = placed-at w len (addressOf (linkOf word)) at (room-at w len word at e .lies)
+
+-- of a link word the link alone counts
+pub room-link : (w : Windows) (len word : ℕ) → roomAt w len (linkOf word .0) ≡ roomAt w len word
+unfolding roomAt
+room-link w len word = let e : word % 2 ^ 20 % 2 ^ 20 ≡ word % 2 ^ 20 = omega arith in rw e
 
 -- the cases of the search for it
 module _ (w : Windows) (len word : ℕ) (l : Link) (is : l ≡ linkOf word) where

@@ -22,7 +22,7 @@ halfOf Upper area r =
     withPsw (wordAt area 4) (registers (sets (r .d) 8 (wordsAt area 32 8)) (sets (r .a) 10 (wordsAt area 8 6)) (r .core))
 halfOf Lower area r = registers (sets (r .d) 0 (wordsAt area 32 8)) (sets (r .a) 2 (wordsAt area 8 6)) (r .core)
 
--- the registers and the window's bytes after a return
+-- the registers and the bytes of both windows after a return
 pub record Loaded : Type 0 where
   pub registers : Registers
   pub bytes : List ℕ
@@ -52,6 +52,6 @@ abbrev pub returnBy : Half → Registers → Memory → Place → Returning
 returnBy half r m place.Outside = returning Outside r m
 returnBy half r m (place.At at) = loading (m .windows) (loadOf half at r (m .bytes))
 
--- a return to a half. An area outside the window leaves all as it was
+-- a return to a half. An area that neither window has leaves all as it was
 unfoldable pub returnOf : Half → Registers → Memory → Returning
 returnOf half r m = returnBy half r m (placeOf m (linkOf (pcxi r)))

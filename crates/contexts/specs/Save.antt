@@ -1,6 +1,6 @@
 -- A save (002, 4.3 and 4.6.1): the area at FCX, its context, and the heads of the lists.
 use Prim.Native.Nat.{ℕ}
-use mathlib.Core.Bool.{cond}
+use mathlib.Core.Bool.{Bool, true, false, cond}
 use mathlib.Core.List.{List}
 use lib.ListN.{length, getD, set}
 use lib.Dec.{eqb}
@@ -24,14 +24,14 @@ abbrev pub roomBy : Place → Room
 roomBy (place.At at) = room.At at
 roomBy place.Outside = room.Stops Outside
 
--- the area that a link word names, for a save: 11 where the link is 0, 12 where the area lies outside the windows
+-- the area that a link word names, for a save: 11 where the link is 0, 12 where neither window has the area
 unfoldable pub roomAt : Windows → ℕ → ℕ → Room
 roomAt w len word = cond (eqb (linkOf word .0) 0) (room.Stops NoArea) (roomBy (placed w len (addressOf (linkOf word))))
 
 abbrev pub roomOf : Memory → ℕ → Room
 roomOf m word = roomAt (m .windows) (length (m .bytes)) word
 
--- the core registers and the window's bytes after an area was taken
+-- the core registers and the bytes of both windows after an area was taken
 pub record Taken : Type 0 where
   pub core : List ℕ
   pub bytes : List ℕ
@@ -39,12 +39,16 @@ pub record Taken : Type 0 where
 abbrev pub taken : List ℕ → List ℕ → Taken
 taken core bytes = record { core = core; bytes = bytes }
 
--- the area's first word is read as the next FCX (low 20 bits, the others 0), the sixteen words are written, PCXI is set: PCPN = CCPN, PIE = IE, UL, link = the taken area
-unfoldable pub takeOf : Half → List ℕ → ℕ → List ℕ → List ℕ → Taken
-takeOf half words at core bytes =
+-- the heads after a save: PCXI is set (PCPN = CCPN, PIE = IE, UL, link = the taken area), then FCX, to the next link
+abbrev pub headsOf : Half → ℕ → List ℕ → List ℕ
+headsOf half next core =
     let fcx = getD core FCX 0 in
     let icr = getD core ICR 0 in
-    taken (set (set core PCXI (pcxiOf icr (ulOf half) fcx)) FCX (linkOf (wordAt bytes at) .0)) (putWords bytes at words 16)
+    set (set core PCXI (pcxiOf icr (ulOf half) fcx)) FCX next
+
+-- the area's first word is read as the next FCX (low 20 bits, the others 0), and the sixteen words are written
+unfoldable pub takeOf : Half → List ℕ → ℕ → List ℕ → List ℕ → Taken
+takeOf half words at core bytes = taken (headsOf half (linkOf (wordAt bytes at) .0) core) (putWords bytes at words 16)
 
 -- what a save comes to, and the core registers and the memory after it
 pub record Saving : Type 0 where
@@ -58,19 +62,30 @@ saving s core m = record { saved = s; core = core; memory = m }
 abbrev pub taking : Saved → Windows → Taken → Saving
 taking s w t = saving s (t .core) (memory w (t .bytes))
 
--- the area taken is LCX's: an FCD entry follows, if there is an area for it too
-abbrev pub depletedBy : Half → List ℕ → ℕ → List ℕ → Memory → Room → Saving
-depletedBy half words at core m (room.Stops s) = saving (Stops s) core m
-depletedBy half words at core m (room.At second) = taking Depleted (m .windows) (takeOf half words at core (m .bytes))
+-- where the area taken is LCX's an FCD entry follows, if there is an area for it too: known before anything is written
+abbrev pub foreseenBy : Room → Saved
+foreseenBy (room.Stops s) = Stops s
+foreseenBy (room.At second) = Depleted
+
+unfoldable pub foreseenOf : List ℕ → Memory → ℕ → Saved
+foreseenOf core m next =
+    let fcx = getD core FCX 0 in
+    let lcx = getD core LCX 0 in
+    cond (eqb (linkOf fcx .0) (linkOf lcx .0)) (foreseenBy (roomOf m next)) Done
+
+abbrev pub stopsOf : Saved → Bool
+stopsOf (Stops s) = true
+stopsOf Done = false
+stopsOf Depleted = false
+
+abbrev pub savedBy : Half → List ℕ → ℕ → List ℕ → Memory → Saved → Saving
+savedBy half words at core m (Stops s) = saving (Stops s) core m
+savedBy half words at core m Done = taking Done (m .windows) (takeOf half words at core (m .bytes))
+savedBy half words at core m Depleted = taking Depleted (m .windows) (takeOf half words at core (m .bytes))
 
 -- a save into the area at byte `at`
 unfoldable pub saveAtOf : Half → List ℕ → ℕ → List ℕ → Memory → Saving
-saveAtOf half words at core m =
-    let fcx = getD core FCX 0 in
-    let lcx = getD core LCX 0 in
-    cond (eqb (linkOf fcx .0) (linkOf lcx .0))
-    (depletedBy half words at core m (roomOf m (wordAt (m .bytes) at)))
-    (taking Done (m .windows) (takeOf half words at core (m .bytes)))
+saveAtOf half words at core m = savedBy half words at core m (foreseenOf core m (wordAt (m .bytes) at))
 
 abbrev pub saveBy : Half → List ℕ → List ℕ → Memory → Room → Saving
 saveBy half words core m (room.Stops s) = saving (Stops s) core m

@@ -2,20 +2,26 @@
 
 use crate::context::Half;
 use areas::area::area;
+use areas::area::write_link;
 use areas::link::Address;
 use areas::link::Place;
+use areas::link::Spot;
 use areas::link::link_of;
 use areas::link::locate;
+use areas::link::spot_of;
 use memory::read_words;
-use memory::windows::put_word_in;
 use memory::word_at;
 use registers::FCX;
 use registers::PCXI;
 use registers::PSW;
 ghost use mathlib.Core.Path.{_≡_};
 ghost use mathlib.Core.List.{_++_};
-ghost use lib.ListN.{length};
-ghost use Rattle.memory.specs.Memory.{lent, Within};
+ghost use lib.ListN.{length, getD};
+ghost use Rattle.memory.specs.Memory.{lent};
+ghost use Rattle.areas.specs.Link.{linkOf};
+ghost use Rattle.areas.specs.Place.{placeOf, LiesIn, offset};
+ghost use Rattle.areas.specs.declared.link.Place.the-variants as place;
+ghost use Rattle.registers.specs.Core.{PCXI};
 ghost use Rattle.registers.specs.Registers.{registers};
 ghost use Rattle.contexts.specs.Restore.{loaded, loadOf, returning, returnOf};
 
@@ -25,7 +31,7 @@ pub enum Returned {
     Outside,
 }
 
-// Loads the upper context of the area at byte `at`, and links the area to the free list.
+// Loads the upper context of the area at PCXI's link, and links the area to the free list.
 fn load_upper(
     base: u32,
     window: &mut [u8],
@@ -34,10 +40,11 @@ fn load_upper(
     d: &mut [u32; 16],
     a: &mut [u32; 16],
     core: &mut [u32; 10],
-    at: usize,
+    at: Spot,
 )
-    requires { ⌜ Within (length (now window)) (length (now window ++ now window2)) at 64 ⌝ }
-    ensures { λ _. ⌜ loaded (registers (now (d .exit)) (now (a .exit)) (now (core .exit))) (now (window .exit) ++ now (window2 .exit)) ≡ loadOf Half.Upper at (registers (now (d .entry)) (now (a .entry)) (now (core .entry))) (now (window .entry) ++ now (window2 .entry)) ⌝ }
+    requires { ⌜ LiesIn (length (now window)) (length (now window2)) 64 at ⌝ }
+    requires { ⌜ placeOf (lent base (now window) base2 (now window2)) (linkOf (getD (now core) PCXI 0)) ≡ place.At (offset (length (now window)) at) ⌝ }
+    ensures { λ _. ⌜ loaded (registers (now (d .exit)) (now (a .exit)) (now (core .exit))) (now (window .exit) ++ now (window2 .exit)) ≡ loadOf Half.Upper (offset (length (now (window .entry))) at) (registers (now (d .entry)) (now (a .entry)) (now (core .entry))) (now (window .entry) ++ now (window2 .entry)) ⌝ }
     ensures { λ _. ⌜ length (now (window .exit)) ≡ length (now (window .entry)) ⌝ }
 {
     let bytes = area(Address(base), window, Address(base2), window2, link_of(core[PCXI]));
@@ -49,7 +56,7 @@ fn load_upper(
     core[PSW] = word_at(bytes, 4);
     core[PCXI] = word_at(bytes, 0);
     core[FCX] = link.0;
-    put_word_in(window, window2, at, free);
+    write_link(window, window2, at, free);
 }
 
 // The same of the lower context; the saved PC is passed over.
@@ -61,10 +68,11 @@ fn load_lower(
     d: &mut [u32; 16],
     a: &mut [u32; 16],
     core: &mut [u32; 10],
-    at: usize,
+    at: Spot,
 )
-    requires { ⌜ Within (length (now window)) (length (now window ++ now window2)) at 64 ⌝ }
-    ensures { λ _. ⌜ loaded (registers (now (d .exit)) (now (a .exit)) (now (core .exit))) (now (window .exit) ++ now (window2 .exit)) ≡ loadOf Half.Lower at (registers (now (d .entry)) (now (a .entry)) (now (core .entry))) (now (window .entry) ++ now (window2 .entry)) ⌝ }
+    requires { ⌜ LiesIn (length (now window)) (length (now window2)) 64 at ⌝ }
+    requires { ⌜ placeOf (lent base (now window) base2 (now window2)) (linkOf (getD (now core) PCXI 0)) ≡ place.At (offset (length (now window)) at) ⌝ }
+    ensures { λ _. ⌜ loaded (registers (now (d .exit)) (now (a .exit)) (now (core .exit))) (now (window .exit) ++ now (window2 .exit)) ≡ loadOf Half.Lower (offset (length (now (window .entry))) at) (registers (now (d .entry)) (now (a .entry)) (now (core .entry))) (now (window .entry) ++ now (window2 .entry)) ⌝ }
     ensures { λ _. ⌜ length (now (window .exit)) ≡ length (now (window .entry)) ⌝ }
 {
     let bytes = area(Address(base), window, Address(base2), window2, link_of(core[PCXI]));
@@ -75,7 +83,7 @@ fn load_lower(
     let link = link_of(core[PCXI]);
     core[PCXI] = word_at(bytes, 0);
     core[FCX] = link.0;
-    put_word_in(window, window2, at, free);
+    write_link(window, window2, at, free);
 }
 
 fn load(
@@ -86,11 +94,12 @@ fn load(
     d: &mut [u32; 16],
     a: &mut [u32; 16],
     core: &mut [u32; 10],
-    at: usize,
+    at: Spot,
     half: Half,
 )
-    requires { ⌜ Within (length (now window)) (length (now window ++ now window2)) at 64 ⌝ }
-    ensures { λ _. ⌜ loaded (registers (now (d .exit)) (now (a .exit)) (now (core .exit))) (now (window .exit) ++ now (window2 .exit)) ≡ loadOf half at (registers (now (d .entry)) (now (a .entry)) (now (core .entry))) (now (window .entry) ++ now (window2 .entry)) ⌝ }
+    requires { ⌜ LiesIn (length (now window)) (length (now window2)) 64 at ⌝ }
+    requires { ⌜ placeOf (lent base (now window) base2 (now window2)) (linkOf (getD (now core) PCXI 0)) ≡ place.At (offset (length (now window)) at) ⌝ }
+    ensures { λ _. ⌜ loaded (registers (now (d .exit)) (now (a .exit)) (now (core .exit))) (now (window .exit) ++ now (window2 .exit)) ≡ loadOf half (offset (length (now (window .entry))) at) (registers (now (d .entry)) (now (a .entry)) (now (core .entry))) (now (window .entry) ++ now (window2 .entry)) ⌝ }
     ensures { λ _. ⌜ length (now (window .exit)) ≡ length (now (window .entry)) ⌝ }
 {
     match half {
@@ -120,7 +129,14 @@ pub fn restore(
         link_of(core[PCXI]),
     ) {
         Place::Outside => Returned::Outside,
-        Place::At(at) => {
+        Place::At(_) => {
+            let at = spot_of(
+                Address(base),
+                window,
+                Address(base2),
+                window2,
+                link_of(core[PCXI]),
+            );
             load(base, window, base2, window2, d, a, core, at, half);
             Returned::Done
         }

@@ -7,9 +7,12 @@ use crate::context::upper;
 use areas::area::next_link;
 use areas::area::write_area;
 use areas::link::Address;
+use areas::link::Link;
 use areas::link::Place;
+use areas::link::Spot;
 use areas::link::link_of;
 use areas::link::locate;
+use areas::link::spot_of;
 use events::event::Stop;
 use registers::FCX;
 use registers::ICR;
@@ -18,10 +21,12 @@ use registers::PCXI;
 ghost use mathlib.Core.Path.{_≡_};
 ghost use mathlib.Core.List.{_++_};
 ghost use lib.ListN.{length};
-ghost use Rattle.memory.specs.Memory.{lent, Within};
+ghost use Rattle.memory.specs.Memory.{lent};
+ghost use Rattle.memory.specs.Word.{putWords};
+ghost use Rattle.areas.specs.Place.{LiesIn, offset};
 ghost use Rattle.registers.specs.Registers.{registers};
 ghost use Rattle.contexts.specs.Context.{upperOf, lowerOf};
-ghost use Rattle.contexts.specs.Save.{roomOf, taken, takeOf, saving, saveAtOf, saveOf};
+ghost use Rattle.contexts.specs.Save.{roomOf, taken, headsOf, foreseenOf, stopsOf, saving, saveOf};
 
 // The area for a save, or why there is none.
 pub enum Room {
@@ -50,75 +55,58 @@ pub fn find(base: u32, window: &[u8], base2: u32, window2: &[u8], word: u32) -> 
     }
 }
 
-// Takes the area: its first word is the next FCX, the context is written, PCXI names the area.
-pub fn take(
+// Whether an FCD entry follows the save of the area at FCX, and whether there is an area for it.
+fn foresee(
     base: u32,
-    window: &mut [u8],
+    window: &[u8],
     base2: u32,
+    window2: &[u8],
+    core: &[u32; 10],
+    next: Link,
+) -> Saved
+    ensures { λ r. ⌜ r ≡ foreseenOf (now (core .entry)) (lent base (now (window .entry)) base2 (now (window2 .entry))) (next .0) ⌝ }
+{
+    let taken = link_of(core[FCX]);
+    let limit = link_of(core[LCX]);
+    if taken.0 != limit.0 {
+        return Saved::Done;
+    }
+    match find(base, window, base2, window2, next.0) {
+        Room::Stops(s) => Saved::Stops(s),
+        Room::At(_) => Saved::Depleted,
+    }
+}
+
+fn stops(saved: Saved) -> bool
+    ensures { λ r. ⌜ r ≡ stopsOf saved ⌝ }
+{
+    match saved {
+        Saved::Stops(_) => true,
+        Saved::Done => false,
+        Saved::Depleted => false,
+    }
+}
+
+// Takes the area: the context is written, PCXI names the area, and FCX the next one.
+pub fn take(
+    window: &mut [u8],
     window2: &mut [u8],
     core: &mut [u32; 10],
-    at: usize,
+    at: Spot,
     half: Half,
     words: [u32; 16],
+    next: Link,
 )
-    requires { ⌜ Within (length (now window)) (length (now window ++ now window2)) at 64 ⌝ }
-    ensures { λ _. ⌜ taken (now (core .exit)) (now (window .exit) ++ now (window2 .exit)) ≡ takeOf half words at (now (core .entry)) (now (window .entry) ++ now (window2 .entry)) ⌝ }
+    requires { ⌜ LiesIn (length (now window)) (length (now window2)) 64 at ⌝ }
+    ensures { λ _. ⌜ taken (now (core .exit)) (now (window .exit) ++ now (window2 .exit)) ≡ taken (headsOf half (next .0) (now (core .entry))) (putWords (now (window .entry) ++ now (window2 .entry)) (offset (length (now (window .entry))) at) words 16) ⌝ }
     ensures { λ _. ⌜ length (now (window .exit)) ≡ length (now (window .entry)) ⌝ }
 {
-    let next = next_link(Address(base), window, Address(base2), window2, link_of(core[FCX]));
     write_area(window, window2, at, words);
     core[PCXI] = fields::pcxi::saved(core[ICR], ul(half), core[FCX]);
     core[FCX] = next.0;
 }
 
-// A save. Nothing is written before it is known that neither it nor an FCD entry after it stops.
-fn save(
-    base: u32,
-    window: &mut [u8],
-    base2: u32,
-    window2: &mut [u8],
-    core: &mut [u32; 10],
-    half: Half,
-    words: [u32; 16],
-) -> Saved
-    ensures { λ r. ⌜ saving r (now (core .exit)) (lent base (now (window .exit)) base2 (now (window2 .exit))) ≡ saveOf half words (now (core .entry)) (lent base (now (window .entry)) base2 (now (window2 .entry))) ⌝ }
-{
-    match find(base, window, base2, window2, core[FCX]) {
-        Room::Stops(s) => Saved::Stops(s),
-        Room::At(at) => save_at(base, window, base2, window2, core, at, half, words),
-    }
-}
-
-fn save_at(
-    base: u32,
-    window: &mut [u8],
-    base2: u32,
-    window2: &mut [u8],
-    core: &mut [u32; 10],
-    at: usize,
-    half: Half,
-    words: [u32; 16],
-) -> Saved
-    requires { ⌜ Within (length (now window)) (length (now window ++ now window2)) at 64 ⌝ }
-    ensures { λ r. ⌜ saving r (now (core .exit)) (lent base (now (window .exit)) base2 (now (window2 .exit))) ≡ saveAtOf half words at (now (core .entry)) (lent base (now (window .entry)) base2 (now (window2 .entry))) ⌝ }
-{
-    let taken = link_of(core[FCX]);
-    let limit = link_of(core[LCX]);
-    if taken.0 == limit.0 {
-        let next = next_link(Address(base), window, Address(base2), window2, taken);
-        return match find(base, window, base2, window2, next.0) {
-            Room::Stops(s) => Saved::Stops(s),
-            Room::At(_) => {
-                take(base, window, base2, window2, core, at, half, words);
-                Saved::Depleted
-            }
-        };
-    }
-    take(base, window, base2, window2, core, at, half, words);
-    Saved::Done
-}
-
-// A save of the upper context.
+// A save of the upper context. Nothing is written before it is known that neither it nor an FCD entry after it stops.
 pub fn save_upper(
     base: u32,
     window: &mut [u8],
@@ -130,8 +118,21 @@ pub fn save_upper(
 ) -> Saved
     ensures { λ r. ⌜ saving r (now (core .exit)) (lent base (now (window .exit)) base2 (now (window2 .exit))) ≡ saveOf Half.Upper (upperOf (registers (now (d .entry)) (now (a .entry)) (now (core .entry)))) (now (core .entry)) (lent base (now (window .entry)) base2 (now (window2 .entry))) ⌝ }
 {
-    let words = upper(d, a, core);
-    save(base, window, base2, window2, core, Half::Upper, words)
+    match find(base, window, base2, window2, core[FCX]) {
+        Room::Stops(s) => Saved::Stops(s),
+        Room::At(_) => {
+            let l = link_of(core[FCX]);
+            let at = spot_of(Address(base), window, Address(base2), window2, l);
+            let next = next_link(Address(base), window, Address(base2), window2, l);
+            let saved = foresee(base, window, base2, window2, core, next);
+            if stops(saved) {
+                return saved;
+            }
+            let words = upper(d, a, core);
+            take(window, window2, core, at, Half::Upper, words, next);
+            saved
+        }
+    }
 }
 
 // A save of the lower context, with the saved PC.
@@ -147,6 +148,19 @@ pub fn save_lower(
 ) -> Saved
     ensures { λ r. ⌜ saving r (now (core .exit)) (lent base (now (window .exit)) base2 (now (window2 .exit))) ≡ saveOf Half.Lower (lowerOf pc (registers (now (d .entry)) (now (a .entry)) (now (core .entry)))) (now (core .entry)) (lent base (now (window .entry)) base2 (now (window2 .entry))) ⌝ }
 {
-    let words = lower(d, a, core, pc);
-    save(base, window, base2, window2, core, Half::Lower, words)
+    match find(base, window, base2, window2, core[FCX]) {
+        Room::Stops(s) => Saved::Stops(s),
+        Room::At(_) => {
+            let l = link_of(core[FCX]);
+            let at = spot_of(Address(base), window, Address(base2), window2, l);
+            let next = next_link(Address(base), window, Address(base2), window2, l);
+            let saved = foresee(base, window, base2, window2, core, next);
+            if stops(saved) {
+                return saved;
+            }
+            let words = lower(d, a, core, pc);
+            take(window, window2, core, at, Half::Lower, words, next);
+            saved
+        }
+    }
 }

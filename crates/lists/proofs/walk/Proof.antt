@@ -7,23 +7,24 @@ use borrow.Author.Needs.{needs}
 use native.Mathlib.Omega.{arith}
 use lib.ListN.{length, set, length-set}
 use Rattle.memory.specs.Memory.{Memory, lent, Within}
-use Rattle.areas.specs.Link.{addressOf}
+use Rattle.areas.specs.Link.{linkOf, addressOf}
 use Rattle.areas.specs.Place.{placeOf}
 use Rattle.lists.specs.Walk.{walkOf}
 use Rattle.areas.specs.declared.link.Link.{Link}
 use Rattle.areas.specs.declared.link.Place.the-variants.{At, Outside}
 use Rattle.areas.proofs.Places.{placed-at}
+use Rattle.areas.proofs.Parts.{first-word-placed}
 use Rattle.lists.proofs.Walks.{walk-whole, walk-outside, walk-again}
 use Rattle.lists.proofs.Fuel.{unmet, unmet-set, mark-in, walk-next}
 use Rattle.lists.proofs.walk.Statement.{statement}
 use Rattle.lists.proofs.walk.Tie as tie
 
 abbrev Inv-loop : tie.InvT-loop
-Inv-loop window base window2 base2 met₀ n₀ met n =
+Inv-loop base window base2 window2 met₀ n₀ met n =
     (length met ≡ 2048) × (walkOf 2049 (lent (base .0) window (base2 .0) window2) (record { 0 = n }) met ≡ walkOf 2049 (lent (base .0) window (base2 .0) window2) (record { 0 = n₀ }) met₀)
 
 abbrev μ-loop : tie.MeasureT-loop
-μ-loop window base window2 base2 met₀ n₀ met n = unmet met
+μ-loop base window base2 window2 met₀ n₀ met n = unmet met
 
 -- the area that the link names
 module _ (c : tie.After-known-told Inv-loop μ-loop) where
@@ -72,7 +73,7 @@ loop-again c =
     let l = d .before .before .before .before .before .loop in
     let on = walk-next (mem d) (link d) (l .met) (place d) (small d) (l .inv .0) (d .before .before .before .before .loop-test .taken) (found d) (c .before .if1 .left) in (
       simp length-set (l .inv .0),
-      ap (λ (k : Link). walkOf 2049 (mem d) k (set (l .met) (place d / 64) true)) (c .next-link .ensures) ∙ sym on ∙ l .inv .1,
+      ap (λ (k : Link). walkOf 2049 (mem d) k (set (l .met) (place d / 64) true)) (c .next-link .ensures ∙ ap linkOf (first-word-placed (mem d) (link d) (place d) (found d))) ∙ sym on ∙ l .inv .1,
     )
 
 returns-3 : tie.Need-returns-3 Inv-loop μ-loop
@@ -95,7 +96,7 @@ walk-spec =
     (λ c. omega (arith, lies c .inside, small c))
     returns-2
     (λ c. omega (arith, lies (c .before .before) .inside, small (c .before .before)))
-    (λ c κs. lies (c .before .before))
+    (λ c κs. (place (c .before .before), found (c .before .before)))
     loop-less
     loop-again
     returns-3)

@@ -4,9 +4,7 @@ use native.Mathlib.Omega.{arith}
 use mathlib.Core.Path.{ap, _∙_}
 use lib.ListN.{length}
 use Rattle.memory.specs.Memory.{lent}
-use Rattle.areas.specs.Link.{addressOf}
-use Rattle.areas.proofs.Places.{placed-at}
-use Rattle.areas.proofs.Parts.{area-length, area-placed}
+use Rattle.areas.proofs.Parts.{area-64}
 use Rattle.areas.proofs.area.next_link.Statement.{statement}
 use Rattle.areas.proofs.area.next_link.Tie as tie
 
@@ -14,9 +12,7 @@ word-at-requires : tie.Need-word-at-requires
 word-at-requires c κs =
     let p = c .before .before .before in
     let m = lent (p .args .base .0) (p .args .window .now) (p .args .base2 .0) (p .args .window2 .now) in
-    let at = p .pre .0 in
-    let w = placed-at (m .windows) (length (m .bytes)) (addressOf (p .args .l)) at (p .pre .1) in
-    omega (arith, ap length (c .area .ensures ∙ area-placed m (p .args .l) at (p .pre .1)), area-length (m .bytes) at (w .inside))
+    omega (arith, ap length (c .area .ensures) ∙ area-64 m (p .args .l) (p .pre .0) (p .pre .1))
 
 returns : tie.Need-returns
 returns c = rw (c .link-of .ensures, c .before .word-at .ensures, c .before .before .area .ensures)
