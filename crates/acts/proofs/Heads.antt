@@ -17,7 +17,7 @@ use Rattle.areas.specs.declared.link.Place.{Place}
 use Rattle.areas.specs.declared.link.Place.the-variants as place
 use Rattle.registers.specs.Registers.{registers, psw, pcxi, withPc}
 use Rattle.registers.specs.declared.Registers.{Registers}
-use Rattle.contexts.specs.Save.{Saving, roomOf, takeOf, saving, taking, depletedBy, saveAtOf, saveBy, saveOf}
+use Rattle.contexts.specs.Save.{Saving, roomOf, takeOf, foreseenOf, saving, savedBy, saveAtOf, saveBy, saveOf}
 use Rattle.contexts.specs.Restore.{Returning, loadOf, returning, returnBy, returnOf}
 use Rattle.contexts.specs.declared.context.Half.{Half}
 use Rattle.contexts.specs.declared.context.Half.the-variants.{Upper, Lower}
@@ -35,17 +35,14 @@ module _ (half : Half) (words core : List ℕ) (m : Memory) (k : ℕ) (n2 : k �
   unfolding takeOf
   take-other at = rw (getD-set-other {A = ℕ} _ 3 k _ 0 n3, getD-set-other {A = ℕ} _ 2 k _ 0 n2)
 
-  depleted-other : (at : ℕ) (s : Room) → getD (depletedBy half words at core m s .core) k 0 ≡ getD core k 0
-  depleted-other at (room.Stops s) = refl
-  depleted-other at (room.At second) = take-other at
+  saved-other : (at : ℕ) (v : Saved) → getD (savedBy half words at core m v .core) k 0 ≡ getD core k 0
+  saved-other at (saved.Stops s) = refl
+  saved-other at saved.Done = take-other at
+  saved-other at saved.Depleted = take-other at
 
   at-other : (at : ℕ) → getD (saveAtOf half words at core m .core) k 0 ≡ getD core k 0
   unfolding saveAtOf
-  at-other at = by (eqb (linkOf (getD core 3 0) .0) (linkOf (getD core 4 0) .0))
-    where
-      by : (t : Bool) → getD (cond t (depletedBy half words at core m (roomOf m (wordAt (m .bytes) at))) (taking saved.Done (m .windows) (takeOf half words at core (m .bytes))) .core) k 0 ≡ getD core k 0
-      by true = depleted-other at (roomOf m (wordAt (m .bytes) at))
-      by false = take-other at
+  at-other at = saved-other at (foreseenOf core m (wordAt (m .bytes) at))
 
   save-other : getD (saveOf half words core m .core) k 0 ≡ getD core k 0
   unfolding saveOf

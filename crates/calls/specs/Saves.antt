@@ -1,6 +1,6 @@
 -- CALL and CALLI, SVLCX and BISR (002, 4.3, 8.6.1, 8.8.1 and chapter 9).
 use Prim.Native.Nat.{ℕ}
-use mathlib.Core.Bool.{true, cond}
+use mathlib.Core.Bool.{Bool, true, false, cond}
 use Rattle.fields.specs.Psw.{isSupervisor}
 use Rattle.fields.specs.Depth.{overflowsUp, calledOf}
 use Rattle.fields.specs.Icr.{icrOf}
@@ -30,3 +30,16 @@ bisrThen imm next r = withPc next (withIcr (icrOf (icr r) true imm) r)
 -- BISR: 1/1 unless Supervisor; the same save as SVLCX
 unfoldable pub bisrOf : ℕ → ℕ → Registers → Act
 bisrOf imm next r = cond (isSupervisor (psw r)) (Save Lower next (bisrThen imm next)) (Ends (ended (how.Trap PRIV) r))
+
+-- the two by whether it is BISR
+unfoldable pub lowerSaveOf : Bool → ℕ → ℕ → Registers → Act
+lowerSaveOf true imm next r = bisrOf imm next r
+lowerSaveOf false imm next r = svlcxOf next
+
+abbrev pub lowerThen : Bool → ℕ → ℕ → Registers → Registers
+lowerThen true imm next r = bisrThen imm next r
+lowerThen false imm next r = withPc next r
+
+-- BISR needs Supervisor
+unfoldable pub forbids : Bool → ℕ → Bool
+forbids bisr psw = cond bisr (cond (isSupervisor psw) false true) false

@@ -3,9 +3,8 @@
 use crate::returns::ret;
 use crate::returns::rfe;
 use crate::returns::rslcx;
-use crate::saves::bisr;
 use crate::saves::call;
-use crate::saves::svlcx;
+use crate::saves::save_lower_half;
 use acts::How;
 use acts::passed_on;
 use events::trap::system_call;
@@ -19,8 +18,42 @@ ghost use Rattle.registers.specs.Registers.{registers};
 ghost use Rattle.image.specs.Fetch.{FieldsHold};
 ghost use Rattle.acts.specs.Acts.{did, performOf};
 ghost use Rattle.acts.specs.Steady.{plainly, Keeps};
-ghost use Rattle.calls.specs.Instructions.{contextOp};
+ghost use Rattle.calls.specs.Instructions.{targetOf, isBisr, contextOp};
 
+// Where CALL and CALLI go.
+fn target(d: &[u32; 16], a: &[u32; 16], core: &[u32; 10], op: Context, i: Instruction) -> u32
+    requires { ⌜ FieldsHold i ⌝ }
+    ensures { λ r. ⌜ r ≡ targetOf op i (registers (now (d .entry)) (now (a .entry)) (now (core .entry))) ⌝ }
+{
+    let x = i.a;
+    match op {
+        Context::Call => plus(core[PC], i.imm),
+        Context::Calli => a[x],
+        Context::Ret => core[PC],
+        Context::Rfe => core[PC],
+        Context::Svlcx => core[PC],
+        Context::Rslcx => core[PC],
+        Context::Bisr => core[PC],
+        Context::Syscall => core[PC],
+    }
+}
+
+fn is_bisr(op: Context) -> bool
+    ensures { λ r. ⌜ r ≡ isBisr op ⌝ }
+{
+    match op {
+        Context::Call => false,
+        Context::Calli => false,
+        Context::Ret => false,
+        Context::Rfe => false,
+        Context::Svlcx => false,
+        Context::Rslcx => false,
+        Context::Bisr => true,
+        Context::Syscall => false,
+    }
+}
+
+// CALL and CALLI have one call between them, and so have SVLCX and BISR: a function with one caller is compiled into it.
 pub fn execute_context(
     base: u32,
     window: &mut [u8],
@@ -37,20 +70,25 @@ pub fn execute_context(
     ensures { λ r. ⌜ Keeps r (registers (now (d .entry)) (now (a .entry)) (now (core .entry))) (registers (now (d .exit)) (now (a .exit)) (now (core .exit))) ⌝ }
 {
     match op {
-        Context::Call => {
-            let to = plus(core[PC], i.imm);
-            passed_on(call(base, window, base2, window2, d, a, core, to, i.next))
-        }
-        Context::Calli => {
-            let x = i.a;
-            let to = a[x];
+        Context::Call | Context::Calli => {
+            let to = target(d, a, core, op, i);
             passed_on(call(base, window, base2, window2, d, a, core, to, i.next))
         }
         Context::Ret => ret(base, window, base2, window2, d, a, core),
         Context::Rfe => rfe(base, window, base2, window2, d, a, core),
-        Context::Svlcx => svlcx(base, window, base2, window2, d, a, core, i.next),
+        Context::Svlcx | Context::Bisr => save_lower_half(
+            base,
+            window,
+            base2,
+            window2,
+            d,
+            a,
+            core,
+            is_bisr(op),
+            i.imm,
+            i.next,
+        ),
         Context::Rslcx => rslcx(base, window, base2, window2, d, a, core, i.next),
-        Context::Bisr => bisr(base, window, base2, window2, d, a, core, i.imm, i.next),
         Context::Syscall => How::TrapAfter(system_call(i.imm)),
     }
 }

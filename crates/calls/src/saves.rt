@@ -17,7 +17,7 @@ ghost use Rattle.memory.specs.Memory.{lent};
 ghost use Rattle.registers.specs.Registers.{registers};
 ghost use Rattle.acts.specs.Acts.{did, performOf};
 ghost use Rattle.acts.specs.Steady.{plainly, Keeps};
-ghost use Rattle.calls.specs.Saves.{calledThen, callOf, svlcxOf, bisrThen, bisrOf};
+ghost use Rattle.calls.specs.Saves.{calledThen, callOf, forbids, lowerThen, lowerSaveOf};
 
 // What a call sets after its save.
 fn set_called(d: &mut [u32; 16], a: &mut [u32; 16], core: &mut [u32; 10], to: u32, next: u32)
@@ -59,41 +59,40 @@ pub fn call(
     }
 }
 
-pub fn svlcx(
-    base: u32,
-    window: &mut [u8],
-    base2: u32,
-    window2: &mut [u8],
+// BISR needs Supervisor.
+fn is_forbidden(bisr: bool, psw: u32) -> bool
+    ensures { λ r. ⌜ r ≡ forbids bisr psw ⌝ }
+{
+    if bisr {
+        if fields::psw::supervisor(psw) {
+            return false;
+        }
+        return true;
+    }
+    false
+}
+
+// What SVLCX or BISR sets after its save.
+fn set_after(
     d: &mut [u32; 16],
     a: &mut [u32; 16],
     core: &mut [u32; 10],
+    bisr: bool,
+    imm: u32,
     next: u32,
-) -> How
-    ensures { λ r. ⌜ did (plainly r) (registers (now (d .exit)) (now (a .exit)) (now (core .exit))) (lent base (now (window .exit)) base2 (now (window2 .exit))) ≡ performOf (svlcxOf next) (registers (now (d .entry)) (now (a .entry)) (now (core .entry))) (lent base (now (window .entry)) base2 (now (window2 .entry))) ⌝ }
-    ensures { λ r. ⌜ Keeps r (registers (now (d .entry)) (now (a .entry)) (now (core .entry))) (registers (now (d .exit)) (now (a .exit)) (now (core .exit))) ⌝ }
+)
+    ensures { λ _. ⌜ registers (now (d .exit)) (now (a .exit)) (now (core .exit)) ≡ lowerThen bisr imm next (registers (now (d .entry)) (now (a .entry)) (now (core .entry))) ⌝ }
 {
-    match save_lower(base, window, base2, window2, d, a, core, next) {
-        Saved::Stops(s) => How::Stopped(s),
-        Saved::Done => {
-            core[PC] = next;
-            How::Done
-        }
-        Saved::Depleted => {
-            core[PC] = next;
-            How::Depleted
-        }
+    if bisr {
+        core[ICR] = fields::icr::written(core[ICR], true, imm);
+        core[PC] = next;
+    } else {
+        core[PC] = next;
     }
 }
 
-// What BISR sets after its save.
-fn set_priority(d: &mut [u32; 16], a: &mut [u32; 16], core: &mut [u32; 10], imm: u32, next: u32)
-    ensures { λ _. ⌜ registers (now (d .exit)) (now (a .exit)) (now (core .exit)) ≡ bisrThen imm next (registers (now (d .entry)) (now (a .entry)) (now (core .entry))) ⌝ }
-{
-    core[ICR] = fields::icr::written(core[ICR], true, imm);
-    core[PC] = next;
-}
-
-pub fn bisr(
+// SVLCX and BISR.
+pub fn save_lower_half(
     base: u32,
     window: &mut [u8],
     base2: u32,
@@ -101,24 +100,29 @@ pub fn bisr(
     d: &mut [u32; 16],
     a: &mut [u32; 16],
     core: &mut [u32; 10],
+    bisr: bool,
     imm: u32,
     next: u32,
 ) -> How
-    ensures { λ r. ⌜ did (plainly r) (registers (now (d .exit)) (now (a .exit)) (now (core .exit))) (lent base (now (window .exit)) base2 (now (window2 .exit))) ≡ performOf (bisrOf imm next (registers (now (d .entry)) (now (a .entry)) (now (core .entry)))) (registers (now (d .entry)) (now (a .entry)) (now (core .entry))) (lent base (now (window .entry)) base2 (now (window2 .entry))) ⌝ }
+    ensures { λ r. ⌜ did (plainly r) (registers (now (d .exit)) (now (a .exit)) (now (core .exit))) (lent base (now (window .exit)) base2 (now (window2 .exit))) ≡ performOf (lowerSaveOf bisr imm next (registers (now (d .entry)) (now (a .entry)) (now (core .entry)))) (registers (now (d .entry)) (now (a .entry)) (now (core .entry))) (lent base (now (window .entry)) base2 (now (window2 .entry))) ⌝ }
     ensures { λ r. ⌜ Keeps r (registers (now (d .entry)) (now (a .entry)) (now (core .entry))) (registers (now (d .exit)) (now (a .exit)) (now (core .exit))) ⌝ }
 {
-    if !fields::psw::supervisor(core[PSW]) {
+    if is_forbidden(bisr, core[PSW]) {
         return How::Trap(PRIV);
     }
     match save_lower(base, window, base2, window2, d, a, core, next) {
         Saved::Stops(s) => How::Stopped(s),
         Saved::Done => {
-            set_priority(d, a, core, imm, next);
-            How::Switched
+            set_after(d, a, core, bisr, imm, next);
+            if bisr {
+                return How::Switched;
+            }
+            How::Done
         }
         Saved::Depleted => {
-            set_priority(d, a, core, imm, next);
-            How::Depleted // the FCD entry finds IE and CCPN as they are set here
+            // an FCD entry finds IE and CCPN as they are set here
+            set_after(d, a, core, bisr, imm, next);
+            How::Depleted
         }
     }
 }

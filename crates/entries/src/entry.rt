@@ -2,6 +2,10 @@
 
 use crate::setting::enter_interrupt;
 use crate::setting::enter_trap;
+use areas::area::next_link;
+use areas::link::Address;
+use areas::link::link_of;
+use areas::link::spot_of;
 use contexts::context::Half;
 use contexts::context::upper;
 use contexts::save::Room;
@@ -34,9 +38,12 @@ pub fn enter_fcd(
 {
     match find(base, window, base2, window2, core[FCX]) {
         Room::Stops(s) => Ending::Stopped(s),
-        Room::At(at) => {
+        Room::At(_) => {
+            let l = link_of(core[FCX]);
+            let at = spot_of(Address(base), window, Address(base2), window2, l);
+            let next = next_link(Address(base), window, Address(base2), window2, l);
             let words = upper(d, a, core);
-            take(base, window, base2, window2, core, at, Half::Upper, words);
+            take(window, window2, core, at, Half::Upper, words, next);
             let pc = core[PC];
             enter_trap(d, a, core, FCD, pc);
             Ending::Made(Event::Trap(FCD))

@@ -2,62 +2,44 @@
 use borrow.Author.Needs.{needs}
 use mathlib.Core.Path.{refl}
 use Rattle.calls.specs.Instructions.{contextOp}
+use Rattle.calls.proofs.Told.{call-told, lower-told}
 use Rattle.calls.proofs.instructions.execute_context.Statement.{statement}
 use Rattle.calls.proofs.instructions.execute_context.Tie as tie
 
 returns : tie.Need-returns
-unfolding contextOp
-returns c = (rw (c .before .before .before .before .before .before .before .before .before .before .before .before .before .enum-told .given .1, ← c .before .before .before .before .before .before .before .before .before .before .before .plus .ensures, c .passed-on .ensures) (c .before .before .before .before .before .call .ensures .0), rw (c .passed-on .ensures) (c .before .before .before .before .before .call .ensures .1))
+returns c = (rw (call-told _ _ _ (c .before .before .before .before .before .before .before .before .before .before .before .before .before .before .before .match .keys1), c .passed-on .ensures) (rw (c .before .before .before .before .before .before .before .before .before .before .before .target .ensures) at (c .before .before .before .before .before .call .ensures .0)), rw (c .passed-on .ensures) (c .before .before .before .before .before .call .ensures .1))
 
 returns-2 : tie.Need-returns-2
 unfolding contextOp
-returns-2 c = (rw (c .before .before .before .before .before .before .before .before .before .before .before .before .enum-told2 .given .1, c .passed-on2 .ensures) (c .before .before .before .before .before .call2 .ensures .0), rw (c .passed-on2 .ensures) (c .before .before .before .before .before .call2 .ensures .1))
+returns-2 c = (rw (c .before .before .before .before .before .before .before .before .before .before .enum-told .given .1) (c .before .before .before .before .ret .ensures .0), c .before .before .before .before .ret .ensures .1)
 
 returns-3 : tie.Need-returns-3
 unfolding contextOp
-returns-3 c = (rw (c .before .before .before .before .before .before .before .before .before .before .enum-told3 .given .1) (c .before .before .before .before .ret .ensures .0), c .before .before .before .before .ret .ensures .1)
+returns-3 c = (rw (c .before .before .before .before .before .before .before .before .before .before .enum-told2 .given .1) (c .before .before .before .before .rfe .ensures .0), c .before .before .before .before .rfe .ensures .1)
 
 returns-4 : tie.Need-returns-4
-unfolding contextOp
-returns-4 c = (rw (c .before .before .before .before .before .before .before .before .before .before .enum-told4 .given .1) (c .before .before .before .before .rfe .ensures .0), c .before .before .before .before .rfe .ensures .1)
+returns-4 c = (rw (lower-told _ _ _ (c .before .before .before .before .before .before .before .before .before .before .before .match .keys4), ← c .before .before .before .before .before .is-bisr .ensures) (c .before .before .before .before .save-lower-half .ensures .0), c .before .before .before .before .save-lower-half .ensures .1)
 
 returns-5 : tie.Need-returns-5
 unfolding contextOp
-returns-5 c = (rw (c .before .before .before .before .before .before .before .before .before .before .enum-told5 .given .1) (c .before .before .before .before .svlcx .ensures .0), c .before .before .before .before .svlcx .ensures .1)
+returns-5 c = (rw (c .before .before .before .before .before .before .before .before .before .before .enum-told3 .given .1) (c .before .before .before .before .rslcx .ensures .0), c .before .before .before .before .rslcx .ensures .1)
 
 returns-6 : tie.Need-returns-6
 unfolding contextOp
-returns-6 c = (rw (c .before .before .before .before .before .before .before .before .before .before .enum-told6 .given .1) (c .before .before .before .before .rslcx .ensures .0), c .before .before .before .before .rslcx .ensures .1)
-
-returns-7 : tie.Need-returns-7
-unfolding contextOp
-returns-7 c = (rw (c .before .before .before .before .before .before .before .before .before .before .enum-told7 .given .1) (c .before .before .before .before .bisr .ensures .0), c .before .before .before .before .bisr .ensures .1)
-
-returns-8 : tie.Need-returns-8
-unfolding contextOp
-returns-8 c = (rw (c .before .enum-told8 .given .1, c .system-call .ensures) refl, tt)
+returns-6 c = (rw (c .before .enum-told4 .given .1, c .system-call .ensures) refl, tt)
 
 pub execute-context-spec : {M : Type 1} → statement M
 execute-context-spec =
     tie.close
     (tie.spec
-    (λ c. search needs)
-    (λ c. search needs)
     (λ c κs. search needs)
-    (λ c κs. search needs)
-    (λ c κs. search needs)
-    (λ c. search needs)
-    (λ c. search needs)
-    (λ c. search needs)
     (λ c κs. search needs)
     (λ c κs. search needs)
     (λ c. search needs)
     (λ c κs. search needs)
     (λ c. search needs)
     (λ c κs. search needs)
-    (λ c. search needs)
     (λ c κs. search needs)
-    (λ c. search needs)
     (λ c κs. search needs)
     (λ c. search needs)
     (λ c κs. search needs)
@@ -78,10 +60,4 @@ execute-context-spec =
     (λ c. search needs)
     (λ c. search needs)
     returns-5
-    (λ c. search needs)
-    (λ c. search needs)
-    returns-6
-    (λ c. search needs)
-    (λ c. search needs)
-    returns-7
-    returns-8)
+    returns-6)
