@@ -1,15 +1,18 @@
 -- What owning registers, request words and bytes tells.
 -- Assumes nothing.
-use Prim.Native.Nat.{ℕ, _%_}
+use Prim.Native.Nat.{ℕ, _-_, _%_, _^_, _≤_, _<_}
+use native.Mathlib.Nat.{lt-of-not-le}
+use native.Mathlib.Decide.{decLe}
 use native.Mathlib.Omega.{arith}
 use mathlib.Core.Path.{_≡_}
-use mathlib.Core.List.{List, map}
-use lib.ListN.{getD}
+use mathlib.Core.List.{List, map, _++_}
+use lib.ListN.{length, getD}
 use mir.Syntax.{w8, w32}
 use mir.Val.{Val, Fits}
 use denote.Laws.{Is}
 use denote.Plain.{UInt}
 use denote.Array.{Array}
+use Rattle.memory.proofs.Joined.{first-one, second-one}
 use Rattle.registers.specs.Registers.{pc}
 use Rattle.registers.specs.declared.Registers.{Registers}
 use Rattle.registers.proofs.Registers as row
@@ -37,3 +40,11 @@ valid-of p e = let w = words-of p in record { d = w .0; a = w .1; core = w .2; e
 -- a slice of bytes
 pub bytes-of : {m : List ℕ} → ((k : ℕ) → Fits w8 (getD m k 0)) → Bytes m
 bytes-of h = record { each = λ k. h k .fits }
+
+-- two slices of bytes, one after the other
+pub joined-bytes : (s t : List ℕ) → Bytes s → Bytes t → Bytes (s ++ t)
+joined-bytes s t a b = record { each = λ k. by k (decLe (length s) k) }
+  where
+    by : (k : ℕ) → Dec (length s ≤ k) → getD (s ++ t) k 0 < 2 ^ 8
+    by k (yes h) = rw (← second-one s t k h) (b .each (k - length s))
+    by k (no h) = let g = lt-of-not-le h in rw (← first-one s t k (omega arith)) (a .each k)

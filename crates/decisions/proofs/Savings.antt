@@ -1,14 +1,13 @@
 -- The cases of a save: a stop, a save, and one that took LCX's area, with the FCD entry after it.
 -- Assumes nothing.
-use Prim.Native.Nat.{ℕ, _%_, _^_}
-use native.Mathlib.Omega.{arith}
+use Prim.Native.Nat.{ℕ}
 use mathlib.Core.Path.{_≡_, refl, ap, _∙_}
 use mathlib.Core.Bool.{Bool, true, false, cond}
 use mathlib.Core.List.{List}
 use lib.ListN.{length}
 use lib.Dec.{eqb}
 use borrow.Author.Tests.{eqb-true, eqb-false}
-use Rattle.memory.specs.Memory.{Windows, Memory, memory}
+use Rattle.memory.specs.Memory.{Memory, memory}
 use Rattle.memory.specs.Word.{wordAt, putWords}
 use Rattle.memory.proofs.Words.{putWords-length}
 use Rattle.fields.specs.Pcxi.{pcxiOf}
@@ -21,7 +20,8 @@ use Rattle.events.specs.declared.event.Stop.{Stop}
 use Rattle.events.specs.declared.event.Ending.the-variants.{Made, Stopped}
 use Rattle.areas.specs.Link.{linkOf}
 use Rattle.contexts.specs.Context.{ulOf, upperOf}
-use Rattle.contexts.specs.Save.{Saving, roomAt, roomOf, takeOf, depletedBy, taking, saveAtOf, saveBy, saveOf}
+use Rattle.contexts.specs.Save.{Saving, roomOf, takeOf, foreseenBy, foreseenOf, savedBy, saveAtOf, saveBy, saveOf}
+use Rattle.contexts.proofs.Rooms.{room-link}
 use Rattle.contexts.specs.declared.context.Half.{Half}
 use Rattle.contexts.specs.declared.context.Half.the-variants.{Upper}
 use Rattle.contexts.specs.declared.save.Room.{Room}
@@ -36,11 +36,6 @@ use Rattle.decisions.proofs.Thens.{Then, withHeads, head-fcx}
 -- the registers with the heads set by a save into the area at byte `at`: PCXI and the next FCX
 abbrev pub afterSave : Half → ℕ → List ℕ → Registers → Registers
 afterSave half at bytes r = withHeads (pcxiOf (icr r) (ulOf half) (fcx r)) (linkOf (wordAt bytes at) .0) r
-
--- a link word, and the link in it, name the same area
-room-link : (w : Windows) (len word : ℕ) → roomAt w len (linkOf word .0) ≡ roomAt w len word
-unfolding roomAt
-room-link w len word = let e : word % 2 ^ 20 % 2 ^ 20 ≡ word % 2 ^ 20 = omega arith in rw e
 
 module _ (e : Event) (half : Half) (saved-pc : ℕ) (then : Registers → Registers) (r : Registers) (m : Memory) where
   abbrev words : List ℕ
@@ -85,11 +80,11 @@ module _ (e : Event) (half : Half) (saved-pc : ℕ) (then : Registers → Regist
     fcd-case at second h g k = rw (reached-room at second k) (depletes at second h g k)
 
     at-case : (at : ℕ) → roomOf m (fcx r) ≡ room.At at → SavingCase (enteringOf (saveAtOf half words at (r .core) m))
-    unfolding saveAtOf takeOf
+    unfolding saveAtOf foreseenOf takeOf
     at-case at h = by (eqb (linkOf (fcx r) .0) (linkOf (lcx r) .0)) refl (roomOf m (wordAt (m .bytes) at)) refl
       where
         by : (b : Bool) → eqb (linkOf (fcx r) .0) (linkOf (lcx r) .0) ≡ b → (x : Room) → roomOf m (wordAt (m .bytes) at) ≡ x
-            → SavingCase (enteringOf (cond b (depletedBy half words at (r .core) m x) (taking saved.Done (m .windows) (takeOf half words at (r .core) (m .bytes)))))
+            → SavingCase (enteringOf (savedBy half words at (r .core) m (cond b (foreseenBy x) saved.Done)))
         by true g (room.Stops s) k = lacks-second s at h (eqb-true _ _ g) k
         by true g (room.At second) k = fcd-case at second h (eqb-true _ _ g) k
         by false g x k = saves at h (eqb-false _ _ g)

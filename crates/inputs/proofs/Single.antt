@@ -1,14 +1,11 @@
--- Each rule by itself: its verdict is given exactly where the rule says it.
+-- Rules 1 and 13, 2 and 3, 4, 5 and 6, each by itself: a verdict is given exactly where these rules say it.
 -- Assumes nothing.
 use Prim.Native.Nat.{ℕ, _%_}
 use native.Mathlib.Decide.{ℕ-discrete}
-use mathlib.Core.Path.{_≡_, refl, sym, ap, _∙_}
-use mathlib.Core.Bool.{Bool, true, false}
+use mathlib.Core.Path.{_≡_, sym, ap}
 use mathlib.Core.List.{List}
 use borrow.Author.Tests.{eq-eqb, ne-eqb}
-use lib.ListN.{length}
 use Rattle.words.specs.Exactly.{Exactly}
-use Rattle.words.proofs.Truth.{never}
 use Rattle.words.proofs.Answers.{exactly}
 use Rattle.memory.specs.Memory.{Memory}
 use Rattle.lists.specs.Walk.{listsOf}
@@ -21,52 +18,35 @@ use Rattle.image.specs.Rules.{ImageSays}
 use Rattle.image.specs.declared.records.ImageCheck.{ImageCheck}
 use Rattle.image.specs.declared.records.ImageCheck.the-variants as image
 use Rattle.image.proofs.Images.{image-says, image-only}
-use Rattle.inputs.specs.Checks.{windowHolds, windowVerdict, imageSaid, imageVerdict, pcVerdict, listsSaid, listsVerdict}
-use Rattle.inputs.specs.Rules.{WindowOf, WindowSays, ContentsSay, Even, PcSays, ListsSay}
+use Rattle.inputs.specs.Checks.{windowVerdict, imageSaid, imageVerdict, pcVerdict, listsSaid, listsVerdict}
+use Rattle.inputs.specs.Rules.{WindowsHold, WindowsSay, ContentsSay, Even, PcSays, ListsSay}
 use Rattle.inputs.specs.declared.verdict.Verdict.{Verdict}
 use Rattle.inputs.specs.declared.verdict.Verdict.the-variants.{Accepted, Refused}
-use Rattle.inputs.specs.declared.verdict.Refusal.the-variants.{Window, Table, Record, OddPc, LinkOutside, MetAgain}
-use Rattle.inputs.proofs.Windows.{window-right, right-window}
+use Rattle.inputs.specs.declared.verdict.Refusal.the-variants.{Window, Overlap, Table, Record, OddPc, LinkOutside, MetAgain}
+use Rattle.inputs.proofs.Windows.{wrong, overlap, hold, windows-wrong, windows-overlap, windows-hold, ComeOf, come-of, windows-small}
 
--- ---- rule 1
+-- ---- rules 1 and 13
 module _ (m : Memory) where
-  abbrev holds : Bool
-  holds = windowHolds (m .base) (length (m .bytes))
-
-  pub window-of : holds ≡ true → WindowOf m
-  window-of e = window-right (m .base) (length (m .bytes)) e
-
-  pub of-window : WindowOf m → holds ≡ true
-  of-window w = right-window (m .base) (length (m .bytes)) w
-
-  pub no-window : holds ≡ false → WindowOf m → ⊥
-  no-window e w = never (sym (of-window w) ∙ e)
-
-  pub of-no-window : (WindowOf m → ⊥) → holds ≡ false
-  of-no-window d = go holds refl
+  windows-say : WindowsSay m (windowVerdict m)
+  windows-say = by (come-of m)
     where
-      go : (t : Bool) → holds ≡ t → t ≡ false
-      go true e = absurd (d (window-of e))
-      go false e = refl
+      by : ComeOf m → WindowsSay m (windowVerdict m)
+      by (wrong e d) = rw e d
+      by (overlap e r d) = rw e (r, d)
+      by (hold e r a) = rw e (record { right = r; apart = a })
 
-  window-says : WindowSays m (windowVerdict m)
-  window-says = go holds refl
-    where
-      go : (t : Bool) → holds ≡ t → WindowSays m (windowVerdict m)
-      go true e = rw e (window-of e)
-      go false e = rw e (no-window e)
+  pub windows-is : (v : Verdict) → WindowsSay m v → v ≡ windowVerdict m
+  windows-is Accepted w = sym (windows-hold _ _ _ _ (w .right) (w .apart))
+  windows-is (Refused Window) d = sym (windows-wrong _ _ _ _ d)
+  windows-is (Refused Overlap) (r, d) = sym (windows-overlap _ _ _ _ r d)
+  windows-is (Refused (Table entry)) s = absurd s
+  windows-is (Refused (Record index)) s = absurd s
+  windows-is (Refused OddPc) s = absurd s
+  windows-is (Refused LinkOutside) s = absurd s
+  windows-is (Refused MetAgain) s = absurd s
 
-  window-is : (v : Verdict) → WindowSays m v → v ≡ windowVerdict m
-  window-is Accepted w = rw (of-window w)
-  window-is (Refused Window) d = rw (of-no-window d)
-  window-is (Refused (Table entry)) s = absurd s
-  window-is (Refused (Record index)) s = absurd s
-  window-is (Refused OddPc) s = absurd s
-  window-is (Refused LinkOutside) s = absurd s
-  window-is (Refused MetAgain) s = absurd s
-
-  pub window-exactly : (r : Verdict) → r ≡ windowVerdict m → (r ≡ windowVerdict m) × Exactly (WindowSays m) r
-  window-exactly = exactly (WindowSays m) (windowVerdict m) window-says window-is
+  pub windows-exactly : (r : Verdict) → r ≡ windowVerdict m → (r ≡ windowVerdict m) × Exactly (WindowsSay m) r
+  windows-exactly = exactly (WindowsSay m) (windowVerdict m) windows-say windows-is
 
 -- ---- rules 2 and 3
 module _ (img : List ℕ) where
@@ -81,6 +61,7 @@ module _ (img : List ℕ) where
   contents-is : (v : Verdict) → ContentsSay img v → v ≡ imageVerdict img
   contents-is Accepted s = rw (image-is image.Holds s)
   contents-is (Refused Window) s = absurd s
+  contents-is (Refused Overlap) s = absurd s
   contents-is (Refused (Table entry)) s = rw (image-is (image.Table entry) s)
   contents-is (Refused (Record index)) s = rw (image-is (image.Record index) s)
   contents-is (Refused OddPc) s = absurd s
@@ -102,6 +83,7 @@ module _ (pc : ℕ) where
   pc-is : (v : Verdict) → PcSays pc v → v ≡ pcVerdict pc
   pc-is Accepted e = rw (eq-eqb (pc % 2) 0 e)
   pc-is (Refused Window) s = absurd s
+  pc-is (Refused Overlap) s = absurd s
   pc-is (Refused (Table entry)) s = absurd s
   pc-is (Refused (Record index)) s = absurd s
   pc-is (Refused OddPc) d = rw (ne-eqb (pc % 2) 0 d)
@@ -113,28 +95,32 @@ module _ (pc : ℕ) where
 
 -- ---- rules 5 and 6
 module _ (m : Memory) (fcx pcxi : ℕ) where
-  lists-by : WindowOf m → (e : ListEnd) → ListsCome m fcx pcxi e → ListsSay m fcx pcxi (listsSaid e)
-  lists-by w list.Whole c = (w, sound-of m (w .most) fcx pcxi c)
+  lists-by : WindowsHold m → (e : ListEnd) → ListsCome m fcx pcxi e → ListsSay m fcx pcxi (listsSaid e)
+  lists-by w list.Whole c = (w, sound-of m (windows-small m w) fcx pcxi c)
   lists-by w list.LinkOutside c = (w, c)
   lists-by w list.MetAgain c = (w, c)
 
   lists-say : ListsSay m fcx pcxi (listsVerdict m fcx pcxi)
-  lists-say = go (holds m) refl
+  lists-say = by (come-of m)
     where
-      go : (t : Bool) → holds m ≡ t → ListsSay m fcx pcxi (listsVerdict m fcx pcxi)
-      go true e = let w = window-of m e in rw e (lists-by w (listsOf m fcx pcxi) (lists-come m (w .most) fcx pcxi))
-      go false e = rw e (no-window m e)
+      by : ComeOf m → ListsSay m fcx pcxi (listsVerdict m fcx pcxi)
+      by (wrong e d) = rw e d
+      by (overlap e r d) = rw e (r, d)
+      by (hold e r a) =
+          let w : WindowsHold m = record { right = r; apart = a } in
+          rw e (lists-by w (listsOf m fcx pcxi) (lists-come m (windows-small m w) fcx pcxi))
 
-  -- the end of two lists of a window that rule 1 accepts
-  pub end-is : WindowOf m → (e : ListEnd) → ListsCome m fcx pcxi e → listsOf m fcx pcxi ≡ e
-  end-is w e c = lists-only m (w .most) fcx pcxi (listsOf m fcx pcxi) e (lists-come m (w .most) fcx pcxi) c
+  -- the end of two lists in windows that rules 1 and 13 accept
+  pub end-is : WindowsHold m → (e : ListEnd) → ListsCome m fcx pcxi e → listsOf m fcx pcxi ≡ e
+  end-is w e c = lists-only m (windows-small m w) fcx pcxi (listsOf m fcx pcxi) e (lists-come m (windows-small m w) fcx pcxi) c
 
-  ends : WindowOf m → (e : ListEnd) → ListsCome m fcx pcxi e → listsSaid e ≡ listsVerdict m fcx pcxi
-  ends w e c = rw (of-window m w) (ap listsSaid (sym (end-is w e c)))
+  ends : WindowsHold m → (e : ListEnd) → ListsCome m fcx pcxi e → listsSaid e ≡ listsVerdict m fcx pcxi
+  ends w e c = rw (← windows-is m Accepted w) (ap listsSaid (sym (end-is w e c)))
 
   lists-is : (v : Verdict) → ListsSay m fcx pcxi v → v ≡ listsVerdict m fcx pcxi
-  lists-is Accepted (w, s) = ends w list.Whole (of-sound m (w .most) fcx pcxi s)
-  lists-is (Refused Window) d = rw (of-no-window m d)
+  lists-is Accepted (w, s) = ends w list.Whole (of-sound m (windows-small m w) fcx pcxi s)
+  lists-is (Refused Window) d = rw (← windows-is m (Refused Window) d)
+  lists-is (Refused Overlap) s = rw (← windows-is m (Refused Overlap) s)
   lists-is (Refused (Table entry)) s = absurd s
   lists-is (Refused (Record index)) s = absurd s
   lists-is (Refused OddPc) s = absurd s

@@ -3,10 +3,8 @@
 use Prim.Native.Nat.{ℕ, _%_}
 use native.Mathlib.Decide.{ℕ-discrete}
 use mathlib.Core.Path.{_≡_, refl, sym, ap, _∙_}
-use mathlib.Core.Bool.{Bool, true, false}
 use mathlib.Core.List.{List}
 use borrow.Author.Tests.{eq-eqb, ne-eqb}
-use lib.ListN.{length}
 use Rattle.words.specs.Exactly.{Exactly}
 use Rattle.words.proofs.Answers.{exactly}
 use Rattle.memory.specs.Memory.{Memory}
@@ -20,51 +18,54 @@ use Rattle.image.specs.Rules.{ImageRight, ImageSays}
 use Rattle.image.specs.declared.records.ImageCheck.{ImageCheck}
 use Rattle.image.specs.declared.records.ImageCheck.the-variants as image
 use Rattle.image.proofs.Images.{image-says}
-use Rattle.inputs.specs.Checks.{windowHolds, imageSaid, imageVerdict, pcVerdict, listsSaid, andThen, stepVerdict, startVerdict}
-use Rattle.inputs.specs.Rules.{WindowOf, Even, Ready, StepSays, StartSays}
+use Rattle.inputs.specs.Checks.{windowVerdict, imageSaid, imageVerdict, pcVerdict, listsSaid, andThen, stepVerdict, startVerdict}
+use Rattle.inputs.specs.Rules.{WindowsHold, Even, Ready, StepSays, StartSays}
 use Rattle.inputs.specs.declared.verdict.Verdict.{Verdict}
 use Rattle.inputs.specs.declared.verdict.Verdict.the-variants.{Accepted, Refused}
 use Rattle.inputs.specs.declared.verdict.Refusal.{Refusal}
-use Rattle.inputs.specs.declared.verdict.Refusal.the-variants.{Window, Table, Record, OddPc, LinkOutside, MetAgain}
-use Rattle.inputs.proofs.Single.{window-of, of-window, no-window, of-no-window, image-is, end-is}
+use Rattle.inputs.specs.declared.verdict.Refusal.the-variants.{Window, Overlap, Table, Record, OddPc, LinkOutside, MetAgain}
+use Rattle.inputs.proofs.Windows.{wrong, overlap, hold, ComeOf, come-of, windows-small}
+use Rattle.inputs.proofs.Single.{windows-is, image-is, end-is}
 
--- ---- rules 1 to 4
+-- ---- rules 1, 13 and 2 to 4
 module _ (m : Memory) (img : List ℕ) (pc : ℕ) where
-  window-refused : windowHolds (m .windows) (length (m .bytes)) ≡ false → stepVerdict m img pc ≡ Refused Window
+  windows-refused : (r : Refusal) → windowVerdict m ≡ Refused r → stepVerdict m img pc ≡ Refused r
   unfolding stepVerdict
-  window-refused e = rw e
+  windows-refused r e = rw e
 
-  window-passed : windowHolds (m .windows) (length (m .bytes)) ≡ true → stepVerdict m img pc ≡ andThen (imageVerdict img) (pcVerdict pc)
+  windows-passed : windowVerdict m ≡ Accepted → stepVerdict m img pc ≡ andThen (imageVerdict img) (pcVerdict pc)
   unfolding stepVerdict
-  window-passed e = rw e
+  windows-passed e = rw e
 
-  pc-verdict : WindowOf m → ImageRight img → StepSays m img pc (pcVerdict pc)
+  pc-verdict : WindowsHold m → ImageRight img → StepSays m img pc (pcVerdict pc)
   pc-verdict w i = go (ℕ-discrete (pc % 2) 0)
     where
       go : Dec (Even pc) → StepSays m img pc (pcVerdict pc)
-      go (yes e) = rw (eq-eqb (pc % 2) 0 e) (record { window = w; image = i; even = e })
+      go (yes e) = rw (eq-eqb (pc % 2) 0 e) (record { windows = w; image = i; even = e })
       go (no d) = rw (ne-eqb (pc % 2) 0 d) (w, i, d)
 
-  image-verdict : WindowOf m → (c : ImageCheck) → ImageSays img c → StepSays m img pc (andThen (imageSaid c) (pcVerdict pc))
+  image-verdict : WindowsHold m → (c : ImageCheck) → ImageSays img c → StepSays m img pc (andThen (imageSaid c) (pcVerdict pc))
   image-verdict w image.Holds s = pc-verdict w s
   image-verdict w (image.Table entry) s = (w, s)
   image-verdict w (image.Record index) s = (w, s)
 
   -- the verdict is what the rules say
   pub step-says : StepSays m img pc (stepVerdict m img pc)
-  step-says = go (windowHolds (m .windows) (length (m .bytes))) refl
+  step-says = by (come-of m)
     where
-      go : (t : Bool) → windowHolds (m .windows) (length (m .bytes)) ≡ t → StepSays m img pc (stepVerdict m img pc)
-      go true e = rw (window-passed e) (image-verdict (window-of m e) (imageOf img) (image-says img))
-      go false e = rw (window-refused e) (no-window m e)
+      by : ComeOf m → StepSays m img pc (stepVerdict m img pc)
+      by (wrong e d) = rw (windows-refused Window e) d
+      by (overlap e r d) = rw (windows-refused Overlap e) (r, d)
+      by (hold e r a) = rw (windows-passed e) (image-verdict (record { right = r; apart = a }) (imageOf img) (image-says img))
 
   -- ---- and no other verdict is
-  passed : WindowOf m → stepVerdict m img pc ≡ andThen (imageVerdict img) (pcVerdict pc)
-  passed w = window-passed (of-window m w)
+  passed : WindowsHold m → stepVerdict m img pc ≡ andThen (imageVerdict img) (pcVerdict pc)
+  passed w = windows-passed (sym (windows-is m Accepted w))
 
   step-is : (v : Verdict) → StepSays m img pc v → stepVerdict m img pc ≡ v
-  step-is Accepted r = passed (r .window) ∙ rw (image-is img image.Holds (r .image), eq-eqb (pc % 2) 0 (r .even))
-  step-is (Refused Window) d = window-refused (of-no-window m d)
+  step-is Accepted r = passed (r .windows) ∙ rw (image-is img image.Holds (r .image), eq-eqb (pc % 2) 0 (r .even))
+  step-is (Refused Window) d = windows-refused Window (sym (windows-is m (Refused Window) d))
+  step-is (Refused Overlap) s = windows-refused Overlap (sym (windows-is m (Refused Overlap) s))
   step-is (Refused (Table entry)) (w, s) = passed w ∙ rw (image-is img (image.Table entry) s)
   step-is (Refused (Record index)) (w, s) = passed w ∙ rw (image-is img (image.Record index) s)
   step-is (Refused OddPc) (w, s, d) = passed w ∙ rw (image-is img image.Holds s, ne-eqb (pc % 2) 0 d)
@@ -74,10 +75,10 @@ module _ (m : Memory) (img : List ℕ) (pc : ℕ) where
   pub step-exactly : (r : Verdict) → r ≡ stepVerdict m img pc → (r ≡ stepVerdict m img pc) × Exactly (StepSays m img pc) r
   step-exactly = exactly (StepSays m img pc) (stepVerdict m img pc) step-says (λ v s. sym (step-is v s))
 
--- ---- all six
+-- ---- all seven
 module _ (m : Memory) (img : List ℕ) (pc fcx pcxi : ℕ) where
   lists-verdict : Ready m img pc → (e : ListEnd) → ListsCome m fcx pcxi e → StartSays m img pc fcx pcxi (listsSaid e)
-  lists-verdict r list.Whole c = (r, sound-of m (r .window .most) fcx pcxi c)
+  lists-verdict r list.Whole c = (r, sound-of m (windows-small m (r .windows)) fcx pcxi c)
   lists-verdict r list.LinkOutside c = (r, c)
   lists-verdict r list.MetAgain c = (r, c)
 
@@ -91,6 +92,7 @@ module _ (m : Memory) (img : List ℕ) (pc fcx pcxi : ℕ) where
 
   from-step : (r : Refusal) → StepSays m img pc (Refused r) → StartSays m img pc fcx pcxi (Refused r)
   from-step Window s = s
+  from-step Overlap s = s
   from-step (Table entry) s = s
   from-step (Record index) s = s
   from-step OddPc s = s
@@ -105,16 +107,17 @@ module _ (m : Memory) (img : List ℕ) (pc fcx pcxi : ℕ) where
       go (Refused r) e s = rw (start-refused r e) (from-step r s)
       go Accepted e s =
           rw (start-passed e)
-          (lists-verdict s (listsOf m fcx pcxi) (lists-come m (s .window .most) fcx pcxi))
+          (lists-verdict s (listsOf m fcx pcxi) (lists-come m (windows-small m (s .windows)) fcx pcxi))
 
   lists-end : Ready m img pc → (e : ListEnd) → ListsCome m fcx pcxi e → startVerdict m img pc fcx pcxi ≡ listsSaid e
   lists-end r e c =
-      start-passed (step-is m img pc Accepted r) ∙ ap listsSaid (end-is m fcx pcxi (r .window) e c)
+      start-passed (step-is m img pc Accepted r) ∙ ap listsSaid (end-is m fcx pcxi (r .windows) e c)
 
   -- ---- and no other verdict is
   start-is : (v : Verdict) → StartSays m img pc fcx pcxi v → startVerdict m img pc fcx pcxi ≡ v
-  start-is Accepted (r, s) = lists-end r list.Whole (of-sound m (r .window .most) fcx pcxi s)
+  start-is Accepted (r, s) = lists-end r list.Whole (of-sound m (windows-small m (r .windows)) fcx pcxi s)
   start-is (Refused Window) d = start-refused Window (step-is m img pc (Refused Window) d)
+  start-is (Refused Overlap) s = start-refused Overlap (step-is m img pc (Refused Overlap) s)
   start-is (Refused (Table entry)) s = start-refused (Table entry) (step-is m img pc (Refused (Table entry)) s)
   start-is (Refused (Record index)) s = start-refused (Record index) (step-is m img pc (Refused (Record index)) s)
   start-is (Refused OddPc) s = start-refused OddPc (step-is m img pc (Refused OddPc) s)

@@ -2,20 +2,18 @@
 -- Assumes nothing.
 use Prim.Native.Nat.{ℕ, _+_, _/_, _%_, _^_, _≤_}
 use mathlib.Core.Path.{_≡_, refl, sym, _∙_}
-use mathlib.Core.Bool.{Bool, true, false, cond}
+use mathlib.Core.Bool.{Bool, true, false, _||_, or-true}
 use mathlib.Core.Logic.{_⊎_, inl, inr, ⊎-elim}
-use native.Mathlib.Decide.{ℕ-discrete}
 use native.Mathlib.Omega.{arith}
 use lib.ListN.{length}
 use lib.Dec.{leb, eqb}
-use borrow.Author.Tests.{leb-true, leb-false, eqb-true, le-leb, eq-eqb, ne-eqb}
-use Rattle.words.proofs.Truth.{never, both-true}
+use borrow.Author.Tests.{leb-true, eqb-true, le-leb, eq-eqb}
+use Rattle.words.proofs.Truth.{never, both-true, either-true}
 use Rattle.memory.specs.Memory.{Memory, firstLength, secondLength}
 use Rattle.inputs.specs.Checks.{windowHolds, secondHolds, apartHolds, windowsVerdict, windowVerdict}
-use Rattle.inputs.specs.Rules.{WindowRight, WindowsRight, WindowOf, WindowsApart}
+use Rattle.inputs.specs.Rules.{WindowRight, WindowsRight, WindowsApart, WindowsHold}
 use Rattle.inputs.specs.declared.verdict.Verdict.{Verdict}
 use Rattle.inputs.specs.declared.verdict.Verdict.the-variants.{Accepted, Refused}
-use Rattle.inputs.specs.declared.verdict.Refusal.{Refusal}
 use Rattle.inputs.specs.declared.verdict.Refusal.the-variants.{Window, Overlap}
 
 module _ (base len : ℕ) where
@@ -36,7 +34,7 @@ module _ (base len : ℕ) where
         one-segment = leb-true (base % 2 ^ 28 + len) (2 ^ 28) (p6 .1);
       }
 
-  pub right-window : WindowRight base len → windowHolds base len ≡ true
+  right-window : WindowRight base len → windowHolds base len ≡ true
   unfolding windowHolds
   right-window r =
       rw (
@@ -49,46 +47,37 @@ module _ (base len : ℕ) where
       )
 
   -- the second window
-  pub second-right : secondHolds base len ≡ true → (len ≡ 0) ⊎ WindowRight base len
+  second-right : secondHolds base len ≡ true → (len ≡ 0) ⊎ WindowRight base len
   unfolding secondHolds
-  second-right h = by (ℕ-discrete len 0)
-    where
-      by : Dec (len ≡ 0) → (len ≡ 0) ⊎ WindowRight base len
-      by (yes e) = inl e
-      by (no d) = inr (window-right (rw (ne-eqb len 0 d) at h))
+  second-right h = ⊎-elim (λ e. inl (eqb-true len 0 e)) (λ e. inr (window-right e)) (either-true (eqb len 0) (windowHolds base len) h)
 
-  pub right-second : (len ≡ 0) ⊎ WindowRight base len → secondHolds base len ≡ true
+  right-second : (len ≡ 0) ⊎ WindowRight base len → secondHolds base len ≡ true
   unfolding secondHolds
   right-second (inl e) = rw (eq-eqb len 0 e)
-  right-second (inr r) = let k = r .some in rw (ne-eqb len 0 (λ e. omega arith)) (right-window r)
+  right-second (inr r) = rw (right-window r, or-true)
+
+  pub second-most : secondHolds base len ≡ true → len ≤ 0x1_0000
+  second-most h = ⊎-elim (λ e. omega arith) (λ r. r .most) (second-right h)
 
 -- ---- both, and rule 13
 module _ (base len base2 len2 : ℕ) where
-  pub apart-right : apartHolds base len base2 len2 ≡ true → WindowsApart base len base2 len2
+  apart-right : apartHolds base len base2 len2 ≡ true → WindowsApart base len base2 len2
   unfolding apartHolds
-  apart-right h = by (ℕ-discrete len2 0)
-    where
-      at : (t : Bool) → leb (base + len) base2 ≡ t → cond t true (leb (base2 + len2) base) ≡ true → WindowsApart base len base2 len2
-      at true e f = inr (inl (leb-true (base + len) base2 e))
-      at false e f = inr (inr (leb-true (base2 + len2) base f))
+  apart-right h =
+      ⊎-elim
+      (λ p.
+        ⊎-elim
+        (λ e. inl (eqb-true len2 0 e))
+        (λ e. inr (inl (leb-true (base + len) base2 e)))
+        (either-true (eqb len2 0) (leb (base + len) base2) p))
+      (λ e. inr (inr (leb-true (base2 + len2) base e)))
+      (either-true (eqb len2 0 || leb (base + len) base2) (leb (base2 + len2) base) h)
 
-      by : Dec (len2 ≡ 0) → WindowsApart base len base2 len2
-      by (yes e) = inl e
-      by (no d) = at (leb (base + len) base2) refl (rw (ne-eqb len2 0 d) at h)
-
-  pub right-apart : WindowsApart base len base2 len2 → apartHolds base len base2 len2 ≡ true
+  right-apart : WindowsApart base len base2 len2 → apartHolds base len base2 len2 ≡ true
   unfolding apartHolds
-  right-apart = by (ℕ-discrete len2 0)
-    where
-      at : (t : Bool) → leb (base + len) base2 ≡ t → (base + len ≤ base2) ⊎ (base2 + len2 ≤ base) → cond t true (leb (base2 + len2) base) ≡ true
-      at true e f = refl
-      at false e (inl x) = absurd (never (sym (le-leb (base + len) base2 x) ∙ e))
-      at false e (inr x) = le-leb (base2 + len2) base x
-
-      by : Dec (len2 ≡ 0) → WindowsApart base len base2 len2 → cond (eqb len2 0) true (cond (leb (base + len) base2) true (leb (base2 + len2) base)) ≡ true
-      by (yes e) w = rw (eq-eqb len2 0 e)
-      by (no d) (inl e) = absurd (d e)
-      by (no d) (inr w) = rw (ne-eqb len2 0 d) (at (leb (base + len) base2) refl w)
+  right-apart (inl e) = rw (eq-eqb len2 0 e)
+  right-apart (inr (inl x)) = rw (le-leb (base + len) base2 x, or-true)
+  right-apart (inr (inr x)) = rw (le-leb (base2 + len2) base x, or-true)
 
   -- the verdict on the windows
   pub data WindowsCome (v : Verdict) : Type 0 where
@@ -96,16 +85,18 @@ module _ (base len base2 len2 : ℕ) where
     overlap : v ≡ Refused Overlap → WindowsRight base len base2 len2 → (WindowsApart base len base2 len2 → ⊥) → WindowsCome v
     hold : v ≡ Accepted → WindowsRight base len base2 len2 → WindowsApart base len base2 len2 → WindowsCome v
 
-  pub windows-come : WindowsCome (windowsVerdict base len base2 len2)
+  windows-come : WindowsCome (windowsVerdict base len base2 len2)
   unfolding windowsVerdict
   windows-come = by (windowHolds base len) refl (secondHolds base2 len2) refl (apartHolds base len base2 len2) refl
     where
-      by : (p : Bool) → windowHolds base len ≡ p → (q : Bool) → secondHolds base2 len2 ≡ q → (a : Bool) → apartHolds base len base2 len2 ≡ a
-          → WindowsCome (cond p (cond q (cond a Accepted (Refused Overlap)) (Refused Window)) (Refused Window))
-      by false e q f a g = wrong refl (λ r. never (sym (right-window base len (r .first)) ∙ e))
-      by true e false f a g = wrong refl (λ r. never (sym (right-second base2 len2 (r .second)) ∙ f))
-      by true e true f false g = overlap refl (record { first = window-right base len e; second = second-right base2 len2 f }) (λ x. never (sym (right-apart x) ∙ g))
-      by true e true f true g = hold refl (record { first = window-right base len e; second = second-right base2 len2 f }) (apart-right g)
+      right : windowHolds base len ≡ true → secondHolds base2 len2 ≡ true → WindowsRight base len base2 len2
+      right e f = record { first = window-right base len e; second = second-right base2 len2 f }
+
+      by : (p : Bool) → windowHolds base len ≡ p → (q : Bool) → secondHolds base2 len2 ≡ q → (a : Bool) → apartHolds base len base2 len2 ≡ a → WindowsCome (windowsVerdict base len base2 len2)
+      by false e q f a g = wrong (rw e) (λ r. never (sym (right-window base len (r .first)) ∙ e))
+      by true e false f a g = wrong (rw (e, f)) (λ r. never (sym (right-second base2 len2 (r .second)) ∙ f))
+      by true e true f false g = overlap (rw (e, f, g)) (right e f) (λ x. never (sym (right-apart x) ∙ g))
+      by true e true f true g = hold (rw (e, f, g)) (right e f) (apart-right g)
 
   pub windows-wrong : (WindowsRight base len base2 len2 → ⊥) → windowsVerdict base len base2 len2 ≡ Refused Window
   windows-wrong d = by windows-come
@@ -131,21 +122,17 @@ module _ (base len base2 len2 : ℕ) where
       by (overlap e q x) = absurd (x a)
       by (hold e q x) = e
 
--- 2,048 areas at most
-pub windows-small : (m : Memory) → WindowOf m → length (m .bytes) ≤ 131072
-windows-small m w = let a = w .first .most in ⊎-elim (λ e. omega arith) (λ r. let b = r .most in omega arith) (w .second)
+-- ---- the windows of a memory
+module _ (m : Memory) where
+  abbrev pub ComeOf : Type 0
+  ComeOf =
+      let w = m .windows in
+      let len = length (m .bytes) in
+      WindowsCome (w .first) (firstLength w len) (w .second) (secondLength w len) (windowVerdict m)
 
--- what is left where the windows are accepted
-never-accepted : {r : Refusal} → Accepted ≡ Refused r → ⊥
-never-accepted e = let z : _≡_ {A = ℕ} 0 1 = cc in omega arith
+  pub come-of : ComeOf
+  come-of = windows-come _ _ _ _
 
-pub accepted-small : (m : Memory) → windowVerdict m ≡ Accepted → length (m .bytes) ≤ 131072
-accepted-small m e = by (windows-come _ _ _ _)
-  where
-    by : WindowsCome (m .windows .first) (firstLength (m .windows) (length (m .bytes))) (m .windows .second) (secondLength (m .windows) (length (m .bytes))) (windowVerdict m) → length (m .bytes) ≤ 131072
-    by (wrong f x) = absurd (never-accepted (sym e ∙ f))
-    by (overlap f r x) = absurd (never-accepted (sym e ∙ f))
-    by (hold f r x) = windows-small m r
-
-pub second-most : (base len : ℕ) → secondHolds base len ≡ true → len ≤ 65536
-second-most base len h = ⊎-elim (λ e. omega arith) (λ r. r .most) (second-right base len h)
+  -- 2,048 areas at most
+  pub windows-small : WindowsHold m → length (m .bytes) ≤ 0x2_0000
+  windows-small w = let a = w .right .first .most in ⊎-elim (λ e. omega arith) (λ r. let b = r .most in omega arith) (w .right .second)

@@ -1,10 +1,10 @@
--- The checks: rules 1 to 4 for a step or a run, all six for a start, in document 01's order.
+-- The checks, in document 01's order: rules 1, 13 and 2 to 4 for a step or a run, all seven for a start.
 use Prim.Native.Nat.{ℕ, _+_, _/_, _%_, _^_}
-use mathlib.Core.Bool.{Bool, cond, _&&_}
+use mathlib.Core.Bool.{Bool, cond, _&&_, _||_}
 use mathlib.Core.List.{List}
 use lib.ListN.{length}
 use lib.Dec.{leb, eqb}
-use Rattle.memory.specs.Memory.{Memory}
+use Rattle.memory.specs.Memory.{Memory, firstLength, secondLength}
 use Rattle.lists.specs.Walk.{listsOf}
 use Rattle.lists.specs.declared.ListEnd.{ListEnd}
 use Rattle.lists.specs.declared.ListEnd.the-variants as list
@@ -13,15 +13,38 @@ use Rattle.image.specs.declared.records.ImageCheck.{ImageCheck}
 use Rattle.image.specs.declared.records.ImageCheck.the-variants as image
 use Rattle.inputs.specs.declared.verdict.Verdict.{Verdict}
 use Rattle.inputs.specs.declared.verdict.Verdict.the-variants.{Accepted, Refused}
-use Rattle.inputs.specs.declared.verdict.Refusal.the-variants.{Window, Table, Record, OddPc, LinkOutside, MetAgain}
+use Rattle.inputs.specs.declared.verdict.Refusal.the-variants.{Window, Overlap, Table, Record, OddPc, LinkOutside, MetAgain}
+
+-- the first rule at fault
+abbrev pub andThen : Verdict → Verdict → Verdict
+andThen Accepted v = v
+andThen (Refused r) v = Refused r
 
 -- 1: base and length are multiples of 64, the length is 1 to 65,536, and the window lies within one segment below E
 unfoldable pub windowHolds : ℕ → ℕ → Bool
 windowHolds base len =
     eqb (base % 64) 0 && eqb (len % 64) 0 && leb 1 len && leb len 0x1_0000 && leb (base / 2 ^ 28) 13 && leb (base % 2 ^ 28 + len) (2 ^ 28)
 
+-- a second window without bytes passes
+unfoldable pub secondHolds : ℕ → ℕ → Bool
+secondHolds base len = eqb len 0 || windowHolds base len
+
+-- 13: the windows do not overlap. A second window without bytes passes
+unfoldable pub apartHolds : ℕ → ℕ → ℕ → ℕ → Bool
+apartHolds base len base2 len2 = eqb len2 0 || leb (base + len) base2 || leb (base2 + len2) base
+
+-- 1 is tried on each window in turn, then 13
+unfoldable pub windowsVerdict : ℕ → ℕ → ℕ → ℕ → Verdict
+windowsVerdict base len base2 len2 =
+    andThen (cond (windowHolds base len) Accepted (Refused Window))
+    (andThen (cond (secondHolds base2 len2) Accepted (Refused Window)) (cond (apartHolds base len base2 len2) Accepted (Refused Overlap)))
+
+-- of the windows of a memory
 abbrev pub windowVerdict : Memory → Verdict
-windowVerdict m = cond (windowHolds (m .windows) (length (m .bytes))) Accepted (Refused Window)
+windowVerdict m =
+    let w = m .windows in
+    let len = length (m .bytes) in
+    windowsVerdict (w .first) (firstLength w len) (w .second) (secondLength w len)
 
 -- 2 and 3
 abbrev pub imageSaid : ImageCheck → Verdict
@@ -36,12 +59,7 @@ imageVerdict img = imageSaid (imageOf img)
 abbrev pub pcVerdict : ℕ → Verdict
 pcVerdict pc = cond (eqb (pc % 2) 0) Accepted (Refused OddPc)
 
--- the first rule at fault
-abbrev pub andThen : Verdict → Verdict → Verdict
-andThen Accepted v = v
-andThen (Refused r) v = Refused r
-
--- 5 and 6, of a window that rule 1 accepts
+-- 5 and 6, of windows that rules 1 and 13 accept
 abbrev pub listsSaid : ListEnd → Verdict
 listsSaid list.Whole = Accepted
 listsSaid list.LinkOutside = Refused LinkOutside

@@ -12,10 +12,10 @@ ghost use lib.ListN.{length};
 ghost use Rattle.memory.specs.Memory.{lent};
 ghost use Rattle.lists.specs.Walk.{listsOf};
 ghost use Rattle.inputs.specs.Checks.{windowHolds, secondHolds, apartHolds, windowsVerdict, windowVerdict, imageVerdict, pcVerdict, listsSaid, listsVerdict, stepVerdict, startVerdict};
-ghost use Rattle.inputs.specs.Rules.{WindowSays, ContentsSay, PcSays, ListsSay, StepSays, StartSays};
+ghost use Rattle.inputs.specs.Rules.{WindowsSay, ContentsSay, PcSays, ListsSay, StepSays, StartSays};
 ghost use Rattle.words.specs.Exactly.{Exactly};
 
-// Rule 1: where the window lies, and its length.
+// Rule 1: where a window lies, and its length.
 fn window_holds(base: Address, len: usize) -> bool
     ensures { λ r. ⌜ r ≡ windowHolds (base .0) len ⌝ }
 {
@@ -79,7 +79,7 @@ fn try_windows(base: Address, len: usize, base2: Address, len2: usize) -> Verdic
 
 // Rules 1 and 13.
 pub fn check_windows(base: Address, window: &[u8], base2: Address, window2: &[u8]) -> Verdict
-    ensures { λ r. ⌜ (r ≡ windowVerdict (lent (base .0) (now (window .entry)) (base2 .0) (now (window2 .entry)))) × Exactly (WindowSays (lent (base .0) (now (window .entry)) (base2 .0) (now (window2 .entry)))) r ⌝ }
+    ensures { λ r. ⌜ (r ≡ windowVerdict (lent (base .0) (now (window .entry)) (base2 .0) (now (window2 .entry)))) × Exactly (WindowsSay (lent (base .0) (now (window .entry)) (base2 .0) (now (window2 .entry)))) r ⌝ }
     ensures unchanged { λ _. ⌜ (now (window .exit) ≡ now (window .entry)) × (now (window2 .exit) ≡ now (window2 .entry)) ⌝ }
 {
     try_windows(base, window.len(), base2, window2.len())

@@ -33,14 +33,28 @@ pub extern "C" fn deqbaryn_check_image(image: &[u8]) -> u64
 }
 
 #[no_mangle]
-pub extern "C" fn deqbaryn_check_lists<'a>(base: u32, window: &'a [u8], base2: u32, window2: &'a [u8], fcx: u32, pcxi: u32) -> u64
+pub extern "C" fn deqbaryn_check_lists<'a>(
+    base: u32,
+    window: &'a [u8],
+    base2: u32,
+    window2: &'a [u8],
+    fcx: u32,
+    pcxi: u32,
+) -> u64
     ensures { λ r. ⌜ (r ≡ verdictOf (listsVerdict (lent base (now (window .entry)) base2 (now (window2 .entry))) fcx pcxi)) × Tells verdictOf (ListsSay (lent base (now (window .entry)) base2 (now (window2 .entry))) fcx pcxi) r ⌝ }
 {
     packed(checks::check_lists(Address(base), window, Address(base2), window2, fcx, pcxi))
 }
 
 #[no_mangle]
-pub extern "C" fn deqbaryn_try_step(base: u32, window: &[u8], base2: u32, window2: &[u8], image: &[u8], pc: u32) -> u64
+pub extern "C" fn deqbaryn_try_step(
+    base: u32,
+    window: &[u8],
+    base2: u32,
+    window2: &[u8],
+    image: &[u8],
+    pc: u32,
+) -> u64
     ensures { λ r. ⌜ (r ≡ verdictOf (stepVerdict (lent base (now (window .entry)) base2 (now (window2 .entry))) (now (image .entry)) pc)) × Tells verdictOf (StepSays (lent base (now (window .entry)) base2 (now (window2 .entry))) (now (image .entry)) pc) r ⌝ }
 {
     packed(checks::try_step(Address(base), window, Address(base2), window2, image, pc))
@@ -59,7 +73,16 @@ pub extern "C" fn deqbaryn_try_start<'a>(
 ) -> u64
     ensures { λ r. ⌜ (r ≡ verdictOf (startVerdict (lent base (now (window .entry)) base2 (now (window2 .entry))) (now (image .entry)) pc fcx pcxi)) × Tells verdictOf (StartSays (lent base (now (window .entry)) base2 (now (window2 .entry))) (now (image .entry)) pc fcx pcxi) r ⌝ }
 {
-    packed(checks::try_start(Address(base), window, Address(base2), window2, image, pc, fcx, pcxi))
+    packed(checks::try_start(
+        Address(base),
+        window,
+        Address(base2),
+        window2,
+        image,
+        pc,
+        fcx,
+        pcxi,
+    ))
 }
 
 // The record at pc of an accepted image: 1, c, a, b from the lowest byte on, and the immediate in the high word. 0 where no record begins there, or the image is refused.

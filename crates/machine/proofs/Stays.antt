@@ -1,14 +1,9 @@
 -- Over a step and a run registers stay words and bytes stay bytes; and a run that is accepted is not refused later.
 -- Assumes nothing.
-use Prim.Native.Nat.{ℕ, zero, suc, _+_, _-_, _^_, _≤_, _<_}
-use native.Mathlib.Nat.{lt-of-not-le}
-use native.Mathlib.Decide.{decLe}
-use native.Mathlib.Omega.{arith}
+use Prim.Native.Nat.{ℕ, zero, suc, _+_}
 use mathlib.Core.Path.{_≡_, refl, ap, _∙_}
-use mathlib.Core.List.{List, _++_}
-use lib.ListN.{length, getD}
+use mathlib.Core.List.{List}
 use Rattle.memory.specs.Memory.{Memory}
-use Rattle.memory.proofs.Joined.{first-one, second-one}
 use Rattle.registers.specs.Registers.{pc}
 use Rattle.registers.specs.declared.Registers.{Registers}
 use Rattle.events.specs.declared.event.Event.{Event}
@@ -31,14 +26,6 @@ use Rattle.machine.specs.declared.answer.Outcome.{Outcome}
 use Rattle.machine.specs.declared.answer.Outcome.the-variants.{Made, Stopped, Refused}
 use Rattle.machine.proofs.Turns.{ready-next, run-made, run-stopped}
 use Rattle.machine.proofs.Singles.{run-refused, run-accepted, refused-keeps, not-refused}
-
--- the bytes of two windows are bytes
-pub joined-bytes : (s t : List ℕ) → Bytes s → Bytes t → Bytes (s ++ t)
-joined-bytes s t a b = record { each = λ k. by k (decLe (length s) k) }
-  where
-    by : (k : ℕ) → Dec (length s ≤ k) → getD (s ++ t) k 0 < 2 ^ 8
-    by k (yes h) = rw (← second-one s t k h) (b .each (k - length s))
-    by k (no h) = let g = lt-of-not-le h in rw (← first-one s t k (omega arith)) (a .each k)
 
 -- registers are words, with PC even, and bytes are bytes
 pub record InBounds (r : Registers) (m : Memory) : Type 0 where

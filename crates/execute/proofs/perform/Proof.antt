@@ -10,7 +10,7 @@ use Rattle.execute.proofs.perform.Tie as tie
 
 -- what rule 3 says of a jump that compares
 execute-jump-requires : tie.Need-execute-jump-requires
-execute-jump-requires c κs = let h = c .before .before .before .before .before .before .before .pre in (h, λ t. h .3 (rw (c .before .before .before .before .op5 .given .1) t))
+execute-jump-requires c κs = let h = c .before .before .before .before .before .before .before .before .pre in (h, λ t. h .3 (rw (c .before .before .before .before .op5 .given .1) t))
 
 returns : tie.Need-returns
 returns c = (performs _ _ _ _ (c .enum-told .given .1) (refl), steady-pc _ _)

@@ -1,10 +1,10 @@
--- `inputs::checks::windows_hold` meets its contract. Assumes nothing.
+-- `inputs::checks::try_windows` meets its contract. Assumes nothing.
 use borrow.Author.Needs.{needs}
 use mathlib.Core.Path.{sym, _∙_}
 use Rattle.inputs.specs.Checks.{windowsVerdict}
 use Rattle.inputs.proofs.Windows.{window-right, second-most}
-use Rattle.inputs.proofs.checks.windows_hold.Statement.{statement}
-use Rattle.inputs.proofs.checks.windows_hold.Tie as tie
+use Rattle.inputs.proofs.checks.try_windows.Statement.{statement}
+use Rattle.inputs.proofs.checks.try_windows.Tie as tie
 
 apart-holds-requires : tie.Need-apart-holds-requires
 apart-holds-requires c κs = (
@@ -28,8 +28,8 @@ returns-4 : tie.Need-returns-4
 unfolding windowsVerdict
 returns-4 c = rw (← c .before .window-holds .ensures, c .if1 .left)
 
-pub windows-hold-spec : {M : Type 1} → statement M
-windows-hold-spec =
+pub try-windows-spec : {M : Type 1} → statement M
+try-windows-spec =
     tie.close
     (tie.spec
     (λ c κs. search needs)
