@@ -56,7 +56,7 @@ loadGuards LdHu p c = false
 loadGuards LdW p c = false
 loadGuards LdA p c = guards p c
 
--- the value at a byte of the window
+-- the value at a place
 unfoldable pub readOf : Load → List ℕ → ℕ → ℕ
 readOf LdB bytes at = extendByte (getD bytes at 0)
 readOf LdBu bytes at = getD bytes at 0

@@ -1,4 +1,4 @@
--- What an instruction does is one of four acts. It is decided from the registers, the ranges, the window and the record; then it is performed.
+-- What an instruction does is one of four acts. It is decided from the registers, the ranges, the memory and the record; then it is performed.
 use Prim.Native.Nat.{ℕ}
 use mathlib.Core.List.{List}
 use Rattle.memory.specs.Memory.{Memory, memory}
@@ -35,7 +35,7 @@ done r = ended how.Done r
 pub data Act : Type 0 where
   -- memory stays: the registers after it, or a trap
   Ends : Ended → Act
-  -- a store of register c's value at a byte of the window, with the registers after it
+  -- a store of register c's value at a place, with the registers after it
   Write : Store → ℕ → ℕ → Registers → Act
   -- a save of a half, with the saved PC of a lower one, and the registers after it from those with the heads set
   Save : Half → ℕ → (Registers → Registers) → Act

@@ -1,4 +1,4 @@
--- An area as a part of the window: a word read or written in the part is that word of the window.
+-- An area as a part of whichever window has it: a word read or written in the part is that word of the memory.
 -- Assumes nothing.
 use mathlib.Core.Path.{_≡_, sym, ap, _∙_}
 use mathlib.Core.List.{List, [], _++_}
@@ -53,7 +53,7 @@ unfolding areaOf
 area-placed m l at p = ap (areaBy (m .bytes)) p
 
 -- ---- reading
-area-length : (s : List ℕ) (at : ℕ) → at + 64 ≤ length s → length (areaAt s at) ≡ 64
+pub area-length : (s : List ℕ) (at : ℕ) → at + 64 ≤ length s → length (areaAt s at) ≡ 64
 area-length s at h = length-take-le 64 (drop at s) (simp length-drop (omega arith))
 
 pub area-64 : (m : Memory) (l : Link) (at : ℕ) → placeOf m l ≡ At at → length (areaOf m l) ≡ 64

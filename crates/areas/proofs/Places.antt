@@ -96,8 +96,10 @@ module _ (s t : List ℕ) (base base2 size : ℕ) (a : Address) where
     where
       w : Windows
       w = windows base (length s) base2
+
       n : ℕ
       n = length (s ++ t)
+
       by : (p : Place) → placedIn base (firstLength w n) size a ≡ p → (q : Place) → First at ≡ eitherSpot p q → at + size ≤ length s
       by (At k) e q g = let z : at ≡ k = cc in let i = found-in base (firstLength w n) size a k e .inside in let l = first-length s t base base2 in omega arith
       by Outside e (At k) g = absurd (never-first g)
@@ -109,8 +111,10 @@ module _ (s t : List ℕ) (base base2 size : ℕ) (a : Address) where
     where
       w : Windows
       w = windows base (length s) base2
+
       n : ℕ
       n = length (s ++ t)
+
       by : (p q : Place) → placedIn base2 (secondLength w n) size a ≡ q → Second at ≡ eitherSpot p q → (at + size ≤ length t) × (at ≤ a .0)
       by (At k) q f g = absurd (never-first (sym g))
       by Outside (At k) f g =
@@ -124,11 +128,6 @@ module _ (s t : List ℕ) (base base2 size : ℕ) (a : Address) where
 
 -- ---- the spot of an area
 module _ (s t : List ℕ) (b c : ℕ) (l : Link) where
-  pub spot-lies : (x : Spot) → x ≡ spotOf (lent b s c t) l → (x ≡ Neither → ⊥) → LiesIn (length s) (length t) 64 x
-  spot-lies (First at) e some = lies-first s t b c 64 (addressOf l) at e
-  spot-lies (Second at) e some = lies-second s t b c 64 (addressOf l) at e .0
-  spot-lies Neither e some = absurd (some refl)
-
   -- an area that has a place has a spot, and that is the place
   pub spot-at-place : (x : Spot) → x ≡ spotOf (lent b s c t) l → (at : ℕ) → placeOf (lent b s c t) l ≡ At at
       → LiesIn (length s) (length t) 64 x × (offset (length s) x ≡ at)

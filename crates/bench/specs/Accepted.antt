@@ -22,7 +22,7 @@ linkedFrom zero l = []
 linkedFrom (suc zero) l = replicate 64 0
 linkedFrom (suc (suc n)) l = bytesOf l ++ (replicate 60 0 ++ linkedFrom (suc n) (l + 1))
 
--- the pool walk's window: 4,096 bytes at D0000000
+-- the pool walk's windows: 4,096 bytes at D0000000, and a second one of length 0
 abbrev pub pool : Memory
 pool = lent 0xD000_0000 (linkedFrom 64 0xD_0001) 0 []
 

@@ -1,4 +1,4 @@
--- The area for a save: which area it is, and that it lies in a window.
+-- The area for a save: which area it is.
 -- Assumes nothing.
 use Prim.Native.Nat.{ℕ, _%_, _^_}
 use native.Mathlib.Omega.{arith}
@@ -6,13 +6,12 @@ use mathlib.Core.Path.{_≡_, refl, sym, ap, _∙_}
 use mathlib.Core.Bool.{Bool, true, false, cond}
 use lib.Dec.{eqb}
 use borrow.Author.Tests.{eqb-false, eq-eqb, ne-eqb}
-use Rattle.memory.specs.Memory.{Windows, Within}
+use Rattle.memory.specs.Memory.{Windows}
 use Rattle.areas.specs.Link.{linkOf, addressOf}
 use Rattle.areas.specs.Place.{placed}
 use Rattle.areas.specs.declared.link.Link.{Link}
 use Rattle.areas.specs.declared.link.Place.{Place}
 use Rattle.areas.specs.declared.link.Place.the-variants as place
-use Rattle.areas.proofs.Places.{placed-at}
 use Rattle.events.specs.declared.event.Stop.{Stop}
 use Rattle.events.specs.declared.event.Stop.the-variants.{NoArea, Outside}
 use Rattle.contexts.specs.Save.{roomBy, roomAt}
@@ -37,9 +36,6 @@ room-at w len word at e = by (eqb (linkOf word .0) 0) refl e
     by : (t : Bool) → eqb (linkOf word .0) 0 ≡ t → cond t (room.Stops NoArea) (roomBy (placed w len (addressOf (linkOf word)))) ≡ room.At at → Area w len word at
     by true t f = absurd (never-room f)
     by false t f = record { linked = eqb-false (linkOf word .0) 0 t; lies = by-place (placed w len (addressOf (linkOf word))) at f }
-
-pub room-inside : (w : Windows) (len word at : ℕ) → roomAt w len word ≡ room.At at → Within (w .split) len at 64
-room-inside w len word at e = placed-at w len (addressOf (linkOf word)) at (room-at w len word at e .lies)
 
 -- of a link word the link alone counts
 pub room-link : (w : Windows) (len word : ℕ) → roomAt w len (linkOf word .0) ≡ roomAt w len word

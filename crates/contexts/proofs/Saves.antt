@@ -82,8 +82,10 @@ module _ (core s t : List ℕ) (b c : ℕ) where
         where
           is : taken core′ bytes′ ≡ takeOf half words at core (s ++ t)
           is = q ∙ taken-is half words next n x h
+
           made : (v : Saved) → saving v core′ (memory (windows b k c) bytes′) ≡ taking v (m .windows) (takeOf half words at core (s ++ t))
           made v = ap₂ (λ (j : ℕ) (z : Taken). saving v (z .core) (memory (windows b j c) (z .bytes))) e is
+
           by : (v : Saved) → stopsOf v ≡ false → saving v core′ (memory (windows b k c) bytes′) ≡ savedBy half words at core m v
           by (Stops x) g = absurd (let z : _≡_ {A = ℕ} 0 1 = cc in omega arith)
           by Done g = made Done

@@ -47,7 +47,13 @@ fn load_upper(
     ensures { λ _. ⌜ loaded (registers (now (d .exit)) (now (a .exit)) (now (core .exit))) (now (window .exit) ++ now (window2 .exit)) ≡ loadOf Half.Upper (offset (length (now (window .entry))) at) (registers (now (d .entry)) (now (a .entry)) (now (core .entry))) (now (window .entry) ++ now (window2 .entry)) ⌝ }
     ensures { λ _. ⌜ length (now (window .exit)) ≡ length (now (window .entry)) ⌝ }
 {
-    let bytes = area(Address(base), window, Address(base2), window2, link_of(core[PCXI]));
+    let bytes = area(
+        Address(base),
+        window,
+        Address(base2),
+        window2,
+        link_of(core[PCXI]),
+    );
     // A10 to A15, D8 to D15
     read_words(bytes, 8, a, 10, 6);
     read_words(bytes, 32, d, 8, 8);
@@ -75,7 +81,13 @@ fn load_lower(
     ensures { λ _. ⌜ loaded (registers (now (d .exit)) (now (a .exit)) (now (core .exit))) (now (window .exit) ++ now (window2 .exit)) ≡ loadOf Half.Lower (offset (length (now (window .entry))) at) (registers (now (d .entry)) (now (a .entry)) (now (core .entry))) (now (window .entry) ++ now (window2 .entry)) ⌝ }
     ensures { λ _. ⌜ length (now (window .exit)) ≡ length (now (window .entry)) ⌝ }
 {
-    let bytes = area(Address(base), window, Address(base2), window2, link_of(core[PCXI]));
+    let bytes = area(
+        Address(base),
+        window,
+        Address(base2),
+        window2,
+        link_of(core[PCXI]),
+    );
     // A2 to A7, D0 to D7
     read_words(bytes, 8, a, 2, 6);
     read_words(bytes, 32, d, 0, 8);

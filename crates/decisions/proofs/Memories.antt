@@ -1,4 +1,4 @@
--- What is written to and read from memory: bytes stay bytes, and the window keeps its length.
+-- What is written to and read from memory: bytes stay bytes, and the windows keep their lengths.
 -- Assumes nothing.
 use Prim.Native.Nat.{ℕ, zero, suc, _+_, _*_, _/_, _%_, _^_, _<_}
 use native.Mathlib.Omega.{arith}

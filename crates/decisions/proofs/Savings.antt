@@ -41,7 +41,7 @@ module _ (e : Event) (half : Half) (saved-pc : ℕ) (then : Registers → Regist
   abbrev words : List ℕ
   words = contextOf half saved-pc r
 
-  -- the window after the save, and the registers that the step then reaches
+  -- the bytes after the save, and the registers that the step then reaches
   abbrev pub savedBytes : ℕ → List ℕ
   savedBytes at = putWords (m .bytes) at words 16
 

@@ -1,4 +1,4 @@
--- What a step keeps: the window's place and length, words as words, an even PC; and a stop leaves all as it was.
+-- What a step keeps: where the windows lie and their lengths, words as words, an even PC; and a stop leaves all as it was.
 -- Assumes nothing.
 use Prim.Native.Nat.{ℕ, _^_, _<_}
 use native.Mathlib.Omega.{arith}

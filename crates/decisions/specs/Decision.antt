@@ -39,7 +39,7 @@ use Rattle.execute.specs.Execute.{actOf}
 pub data Decision : Type 0 where
   -- memory stays, with the registers after the step
   Keep : Registers → Decision
-  -- a store of a value at a byte of the window, with the registers after it
+  -- a store of a value at a place, with the registers after it
   Write : Store → ℕ → ℕ → Registers → Decision
   -- the event, the half, the saved PC of a lower one, and the registers after it from those with the heads set
   Save : Event → Half → ℕ → (Registers → Registers) → Decision

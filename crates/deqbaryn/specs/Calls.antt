@@ -27,7 +27,7 @@ abbrev pub calledBy : Kind → HostCall → Memory → Called
 calledBy step h m = stepCall (h .core .bytes) m (h .image .bytes)
 calledBy (run n) h m = runCall n (h .core .bytes) m (h .image .bytes)
 
--- the registers then are those in the record that it leaves. A record of another length has none: registers and window are as they were
+-- the registers then are those in the record that it leaves. A record of another length has none: registers and windows are as they were
 abbrev pub leaves : HostCall → State → State
 leaves h s =
     let l = calledBy (h .kind) h (s .memory) in

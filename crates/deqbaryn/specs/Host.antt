@@ -1,4 +1,4 @@
--- What the three functions answer, and what they leave of the core record and the window. A record of another length than 616 is answered as such, with all as before.
+-- What the functions answer, and what they leave of the core record and the windows. A record of another length than 616 is answered as such, with all as before.
 use Prim.Native.Nat.{ℕ}
 use mathlib.Core.Path.{_≡_}
 use mathlib.Core.Bool.{Bool, cond}
@@ -18,6 +18,10 @@ use Rattle.machine.specs.declared.answer.Outcome.the-variants.{Made, Stopped, R
 use Rattle.records.specs.CoreRecord.{registersIn, requestsIn, rangesOf, storedIn}
 use Rattle.answers.specs.Answers.{permitsNumber, outcomeAnswer, wrongLength, verdictAnswer}
 
+-- the version of the host's interface
+abbrev pub version : ℕ
+version = 2
+
 abbrev pub isRecord : List ℕ → Bool
 isRecord bytes = eqb (length bytes) 616
 
@@ -28,11 +32,11 @@ startOn r m img = verdictAnswer (startVerdict m img (pc r) (fcx r) (pcxi r))
 abbrev pub startAnswer : List ℕ → Memory → List ℕ → ℕ
 startAnswer bytes m img = cond (isRecord bytes) (startOn (registersIn bytes) m img) wrongLength
 
--- accepted or refused exactly where the six rules say so
+-- accepted or refused exactly where the seven rules say so
 abbrev pub StartTells : List ℕ → Memory → List ℕ → ℕ → Type 0
 StartTells bytes m img n = length bytes ≡ 616 → (let r = registersIn bytes in Tells verdictAnswer (StartSays m img (pc r) (fcx r) (pcxi r)) n)
 
--- ---- a step or a run: its answer, and what it leaves of the record and the window
+-- ---- a step or a run: its answer, and what it leaves of the record and the windows
 pub record Called : Type 0 where
   pub answer : ℕ
   pub core : List ℕ
@@ -64,7 +68,7 @@ stepCalled s bytes = called (outcomeAnswer (s .outcome) (permitsNumber (s .permi
 abbrev pub stepCall : List ℕ → Memory → List ℕ → Called
 stepCall bytes m img = cond (isRecord bytes) (stepCalled (stepOn bytes m img) bytes) (called wrongLength bytes m)
 
--- refused exactly where the rules 1 to 4 say so, and else made or stopped
+-- refused exactly where the rules 1, 13 and 2 to 4 say so, and else made or stopped
 abbrev pub StepTells : List ℕ → Memory → List ℕ → Type 0
 StepTells bytes m img = length bytes ≡ 616 → Exactly (StepSays m img (pc (registersIn bytes))) (verdictIn (stepOn bytes m img .outcome))
 
@@ -83,7 +87,7 @@ runCalled v bytes = called (outcomeAnswer (v .outcome) 0 (v .made)) (runStored (
 abbrev pub runCall : ℕ → List ℕ → Memory → List ℕ → Called
 runCall n bytes m img = cond (isRecord bytes) (runCalled (runOn n bytes m img) bytes) (called wrongLength bytes m)
 
--- refused exactly where the rules 1 to 4 say so
+-- refused exactly where the rules 1, 13 and 2 to 4 say so
 abbrev pub RunTells : ℕ → List ℕ → Memory → List ℕ → Type 0
 RunTells n bytes m img = length bytes ≡ 616 → Exactly (StepSays m img (pc (registersIn bytes))) (verdictIn (runOn n bytes m img .outcome))
 
@@ -91,6 +95,6 @@ RunTells n bytes m img = length bytes ≡ 616 → Exactly (StepSays m img (pc (r
 abbrev pub RunHolds : ℕ → List ℕ → Memory → List ℕ → List ℕ → Type 0
 RunHolds n bytes m img after = length bytes ≡ 616 → registersIn after ≡ runOn n bytes m img .registers
 
--- where no step is made, record and window are as they were, byte for byte
+-- where no step is made, record and windows are as they were, byte for byte
 abbrev pub UnmadeKeeps : ℕ → List ℕ → Memory → List ℕ → List ℕ → Memory → Type 0
 UnmadeKeeps n bytes m img after w = runOn n bytes m img .made ≡ 0 → (after ≡ bytes) × (w ≡ m)

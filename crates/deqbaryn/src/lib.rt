@@ -1,4 +1,4 @@
-// The host library: a start, a step and a run on a core record, a window and an image that the host lends. No pointer is kept.
+// The host library: a start, a step and a run on a core record, two windows and an image that the host lends. No pointer is kept.
 
 use answers::outcome_answer;
 use answers::permits;
@@ -17,8 +17,16 @@ use series::start;
 ghost use mathlib.Core.Path.{_≡_};
 ghost use lib.ListN.{length};
 ghost use Rattle.memory.specs.Memory.{lent};
-ghost use Rattle.deqbaryn.specs.Host.{startAnswer, StartTells, stepStored, runStored, called, stepCall, StepTells, StepHolds, runCall, RunTells, RunHolds, UnmadeKeeps};
+ghost use Rattle.deqbaryn.specs.Host.{version, startAnswer, StartTells, stepStored, runStored, called, stepCall, StepTells, StepHolds, runCall, RunTells, RunHolds, UnmadeKeeps};
 ghost use Rattle.deqbaryn.specs.Calls.{AcceptedFollows};
+
+// The version of this interface, which include/deqbaryn.h names too.
+#[no_mangle]
+pub extern "C" fn deqbaryn_version() -> u32
+    ensures { λ r. ⌜ r ≡ version ⌝ }
+{
+    2
+}
 
 // Whether the start is accepted, with PC, FCX and PCXI of the record.
 #[no_mangle]
@@ -67,7 +75,14 @@ fn store_run(core: &mut [u8], outcome: Outcome, registers: Registers, requests: 
 }
 
 #[no_mangle]
-pub extern "C" fn deqbaryn_step(core: &mut [u8], base: u32, window: &mut [u8], base2: u32, window2: &mut [u8], image: &[u8]) -> u64
+pub extern "C" fn deqbaryn_step(
+    core: &mut [u8],
+    base: u32,
+    window: &mut [u8],
+    base2: u32,
+    window2: &mut [u8],
+    image: &[u8],
+) -> u64
     ensures { λ r. ⌜ called r (now (core .exit)) (lent base (now (window .exit)) base2 (now (window2 .exit))) ≡ stepCall (now (core .entry)) (lent base (now (window .entry)) base2 (now (window2 .entry))) (now (image .entry)) ⌝ }
     ensures { λ _. ⌜ StepTells (now (core .entry)) (lent base (now (window .entry)) base2 (now (window2 .entry))) (now (image .entry)) ⌝ }
     ensures { λ _. ⌜ StepHolds (now (core .entry)) (lent base (now (window .entry)) base2 (now (window2 .entry))) (now (image .entry)) (now (core .exit)) ⌝ }
@@ -78,7 +93,16 @@ pub extern "C" fn deqbaryn_step(core: &mut [u8], base: u32, window: &mut [u8], b
     let r = read_registers(core);
     let xs = read_requests(core);
     let rs = read_ranges(core);
-    let s = step(Address(base), window, Address(base2), window2, image, r, xs, rs);
+    let s = step(
+        Address(base),
+        window,
+        Address(base2),
+        window2,
+        image,
+        r,
+        xs,
+        rs,
+    );
     let outcome = s.outcome;
     let after = s.registers;
     let requests = s.requests;
@@ -108,7 +132,17 @@ pub extern "C" fn deqbaryn_run(
     let r = read_registers(core);
     let xs = read_requests(core);
     let rs = read_ranges(core);
-    let v = run(Address(base), window, Address(base2), window2, image, r, xs, rs, n);
+    let v = run(
+        Address(base),
+        window,
+        Address(base2),
+        window2,
+        image,
+        r,
+        xs,
+        rs,
+        n,
+    );
     let outcome = v.outcome;
     let after = v.registers;
     let requests = v.requests;

@@ -117,7 +117,16 @@ pub fn trap(
 ) -> Ending
     ensures { λ r. ⌜ made r (registers (now (d .exit)) (now (a .exit)) (now (core .exit))) (lent base (now (window .exit)) base2 (now (window2 .exit))) ≡ trapOf t back (registers (now (d .entry)) (now (a .entry)) (now (core .entry))) (lent base (now (window .entry)) base2 (now (window2 .entry))) ⌝ }
 {
-    enter(base, window, base2, window2, d, a, core, Cause::Trap(t, back))
+    enter(
+        base,
+        window,
+        base2,
+        window2,
+        d,
+        a,
+        core,
+        Cause::Trap(t, back),
+    )
 }
 
 // An interrupt from a source, with its priority number.
@@ -134,5 +143,14 @@ pub fn interrupt(
 ) -> Ending
     ensures { λ r. ⌜ made r (registers (now (d .exit)) (now (a .exit)) (now (core .exit))) (lent base (now (window .exit)) base2 (now (window2 .exit))) ≡ interruptOf source level (registers (now (d .entry)) (now (a .entry)) (now (core .entry))) (lent base (now (window .entry)) base2 (now (window2 .entry))) ⌝ }
 {
-    enter(base, window, base2, window2, d, a, core, Cause::Interrupt(source, level))
+    enter(
+        base,
+        window,
+        base2,
+        window2,
+        d,
+        a,
+        core,
+        Cause::Interrupt(source, level),
+    )
 }

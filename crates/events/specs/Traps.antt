@@ -59,7 +59,7 @@ NEST = trap 3 7
 abbrev pub CODE : Trap
 CODE = trap 4 1
 
--- data not wholly in the window
+-- data not wholly in one window
 abbrev pub DATA : Trap
 DATA = trap 4 2
 

@@ -15,7 +15,7 @@ pub enum Event {
 pub enum Stop {
     // a save with FCX link 0
     NoArea,
-    // a save or return whose area lies outside the window
+    // a save or return whose area lies in neither window
     Outside,
 }
 

@@ -36,7 +36,7 @@ pub const CTYP: Trap = Trap { class: 3, tin: 6 };
 pub const NEST: Trap = Trap { class: 3, tin: 7 };
 // no record begins at PC
 pub const CODE: Trap = Trap { class: 4, tin: 1 };
-// data not wholly in the window
+// data not wholly in one window
 pub const DATA: Trap = Trap { class: 4, tin: 2 };
 // overflow, sticky overflow
 pub const OVF: Trap = Trap { class: 5, tin: 1 };

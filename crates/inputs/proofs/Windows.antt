@@ -66,10 +66,10 @@ module _ (base len base2 len2 : ℕ) where
   apart-right h =
       ⊎-elim
       (λ p.
-        ⊎-elim
-        (λ e. inl (eqb-true len2 0 e))
-        (λ e. inr (inl (leb-true (base + len) base2 e)))
-        (either-true (eqb len2 0) (leb (base + len) base2) p))
+      ⊎-elim
+      (λ e. inl (eqb-true len2 0 e))
+      (λ e. inr (inl (leb-true (base + len) base2 e)))
+      (either-true (eqb len2 0) (leb (base + len) base2) p))
       (λ e. inr (inr (leb-true (base2 + len2) base e)))
       (either-true (eqb len2 0 || leb (base + len) base2) (leb (base2 + len2) base) h)
 

@@ -13,7 +13,7 @@ use Rattle.areas.specs.declared.link.Place.the-variants.{At, Outside}
 use Rattle.lists.specs.declared.ListEnd.{ListEnd}
 use Rattle.lists.specs.declared.ListEnd.the-variants.{Whole, LinkOutside, MetAgain}
 
--- from the link l the links ls are met, in order, and then the link r: each of ls lies in the window, and the first word of its area has the link after it
+-- from the link l the links ls are met, in order, and then the link r: one of the windows has each of ls, and the first word of its area has the link after it
 abbrev pub Leads : Memory → Link → List Link → Link → Type 0
 Leads m l [] r = l ≡ r
 Leads m l (k ∷ ks) r =
@@ -27,7 +27,7 @@ abbrev pub count : Link → List Link → ℕ
 count l [] = 0
 count l (k ∷ ks) = one l k + count l ks
 
--- rules 5 and 6 hold: each list ends at link 0, with every link before it in the window, and no area stands on them twice
+-- rules 5 and 6 hold: each list ends at link 0, with every link before it in one of the windows, and no area stands on them twice
 pub record Sound (m : Memory) (fcx pcxi : ℕ) : Type 0 where
   pub free : List Link
   pub used : List Link

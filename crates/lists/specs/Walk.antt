@@ -1,4 +1,4 @@
--- The check of the lists, link by link. Of each area of the window `met` says whether it was met.
+-- The check of the lists, link by link. Of each area of the two windows `met` says whether it was met.
 use Prim.Native.Nat.{ℕ, zero, suc, _/_}
 use mathlib.Core.Bool.{Bool, true, false, cond}
 use mathlib.Core.List.{List}
@@ -28,7 +28,7 @@ walkAt m met on Outside = walked LinkOutside met
 walkAt m met on (At at) =
     cond (getD met (at / 64) false) (walked MetAgain met) (on (linkOf (wordAt (m .bytes) at)) (set met (at / 64) true))
 
--- the list from the link l on, over at most n links. A window has 2,048 areas at most, so 2,049 links never run out (proofs/Fuel.antt)
+-- the list from the link l on, over at most n links. Two windows have 2,048 areas at most, so 2,049 links never run out (proofs/Fuel.antt)
 unfoldable pub walkOf : ℕ → Memory → Link → List Bool → Walked
 walkOf zero m l met = walked MetAgain met
 walkOf (suc n) m l met = cond (eqb (l .0) 0) (walked Whole met) (walkAt m met (walkOf n m) (placeOf m l))

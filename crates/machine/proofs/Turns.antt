@@ -38,7 +38,7 @@ pub accepted-step : (img : List ℕ) (r : Registers) (xs : List ℕ) (rs : List 
 unfolding stepOf
 accepted-step img r xs rs m e = rw e
 
--- the rules 1 to 4 are about the window's place and length, the image, and whether PC is even
+-- the rules of a step are about where the windows lie and their lengths, the image, and whether PC is even
 same-verdict : (m n : Memory) (img : List ℕ) (p q : ℕ) → n .windows ≡ m .windows → length (n .bytes) ≡ length (m .bytes) → p % 2 ≡ 0 → q % 2 ≡ 0 → stepVerdict n img q ≡ stepVerdict m img p
 unfolding stepVerdict
 same-verdict m n img p q b l e f = rw (b, l, e, f)

@@ -47,6 +47,6 @@ runBy n img r xs rs m verdict.Accepted = runFrom n img rs (Made event.Instructio
 abbrev pub RefusedKeeps : Registers → List ℕ → Memory → RunOf → Type 0
 RefusedKeeps r xs m after = (x : Refusal) → after .outcome ≡ Refused x → after ≡ ran (Refused x) 0 r xs m
 
--- a run of no steps is tried with the rules 1 to 4 too, and ends as an instruction
+-- a run of no steps is tried with the rules 1, 13 and 2 to 4 too, and ends as an instruction
 unfoldable pub runOf : ℕ → List ℕ → Registers → List ℕ → List Range → Memory → RunOf
 runOf n img r xs rs m = runBy n img r xs rs m (stepVerdict m img (pc r))

@@ -1,4 +1,4 @@
--- A step: refused by the rules 1 to 4, or stopped, with all as before; or made, with an event. It names the ranges that permitted its accesses, where it is not refused.
+-- A step: refused by the rules 1, 13 and 2 to 4, or stopped, with all as before; or made, with an event. It names the ranges that permitted its accesses, where it is not refused.
 use Prim.Native.Nat.{ℕ}
 use mathlib.Core.List.{List}
 use Rattle.memory.specs.Memory.{Memory}
@@ -20,7 +20,7 @@ abbrev pub outcomeOf : Ending → Outcome
 outcomeOf (ending.Made e) = Made e
 outcomeOf (ending.Stopped s) = Stopped s
 
--- what an outcome says of the rules 1 to 4
+-- what an outcome says of the rules 1, 13 and 2 to 4
 abbrev pub verdictIn : Outcome → Verdict
 verdictIn (Made e) = verdict.Accepted
 verdictIn (Stopped s) = verdict.Accepted

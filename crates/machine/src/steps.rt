@@ -1,4 +1,4 @@
-// A step and a run: by value outside, over the register arrays by reference inside. The rules 1 to 4 are tried once, before the first step.
+// A step and a run: by value outside, over the register arrays by reference inside. The rules 1, 13 and 2 to 4 are tried once, before the first step.
 
 use crate::answer::Outcome;
 use crate::answer::Ran;
@@ -24,7 +24,7 @@ ghost use Rattle.machine.specs.Step.{verdictIn, stepped, stepOf};
 ghost use Rattle.machine.specs.Run.{ran, runOf, RefusedKeeps};
 ghost use Rattle.machine.specs.Inner.{Ready};
 
-// A step of an accepted machine, for a caller that has tried the rules 1 to 4 once. The machine stays accepted.
+// A step of an accepted machine, for a caller that has tried these rules once. The machine stays accepted.
 pub fn step_accepted(
     base: Address,
     window: &mut [u8],
@@ -95,7 +95,18 @@ pub fn step(
                 data: Permit::Unnamed,
             },
         },
-        Verdict::Accepted => { step_accepted(base, window, base2, window2, image, registers, requests, ranges) }
+        Verdict::Accepted => {
+            step_accepted(
+                base,
+                window,
+                base2,
+                window2,
+                image,
+                registers,
+                requests,
+                ranges,
+            )
+        }
     }
 }
 

@@ -25,10 +25,6 @@ pub set-append-add : (xs ys : List ℕ) (n v : ℕ) → set (xs ++ ys) (length x
 set-append-add [] ys n v = rw zero-add
 set-append-add (x ∷ xs) ys n v = rw suc-add (ap (λ (r : List ℕ). x ∷ r) (set-append-add xs ys n v))
 
--- fewer bytes from there
-pub within-less : {split len at n : ℕ} (size : ℕ) → size ≤ n → Within split len at n → Within split len at size
-within-less size h w = record { inside = let i = w .inside in omega arith; one = λ l. let i = w .one l in omega arith }
-
 module _ (s t : List ℕ) where
   -- ---- the lengths, as the code has them
   pub first-length : (base second : ℕ) → firstLength (windows base (length s) second) (length (s ++ t)) ≡ length s

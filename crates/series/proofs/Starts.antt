@@ -109,7 +109,7 @@ module _ (s : State) (v : Valid (s .registers)) (y : Bytes (s .memory .bytes)) (
             });
       }
 
--- demand 3, of every state that the code can hold: from a start that all six rules accept, with any image
+-- demand 3, of every state that the code can hold: from a start that all seven rules accept, with any image
 module _ (s : State) (img : List ℕ) (e : startVerdict (s .memory) img (pc (s .registers)) (fcx (s .registers)) (pcxi (s .registers)) ≡ Accepted) where
   pub follows : Valid (s .registers) → Bytes (s .memory .bytes) → Follows s
   follows v y = from-sound s v y ((rw e at (start-says (s .memory) img (pc (s .registers)) (fcx (s .registers)) (pcxi (s .registers)))) .1)

@@ -27,7 +27,7 @@ use Rattle.series.specs.Conditions.{verdictAt, decisionAt, movedAt, move
 abbrev pub end : Link
 end = record { 0 = 0 }
 
--- from the word w the saved contexts are met, in order, and then link 0: each area lies in the window, the word that links to it has its half as UL, and it holds its registers
+-- from the word w the saved contexts are met, in order, and then link 0: one of the windows has each area, the word that links to it has its half as UL, and it holds its registers
 abbrev pub Stacked : Memory → ℕ → List SavedContext → Type 0
 Stacked m w [] = linkOf w ≡ end
 Stacked m w (c ∷ cs) =

@@ -19,7 +19,7 @@ use Rattle.decisions.specs.Decision.{Decision, Keep, Write, Save, Return, decis
 use Rattle.series.specs.Abstract.{AbstractLists, Move, none, moveOf, moved}
 use Rattle.series.specs.Calls.{Args}
 
--- a step is decided where the rules 1 to 4 accept it
+-- a step is decided where the rules 1, 13 and 2 to 4 accept it
 abbrev pub verdictAt : Args → Verdict
 verdictAt a = stepVerdict (a .memory) (a .image .bytes) (pc (a .registers))
 

@@ -1,11 +1,11 @@
--- The start of a walk: window D0000000 of 4,096 bytes, its 64 areas linked ascending from FCX D0000.
+-- The start of a walk: window D0000000 of 4,096 bytes, its 64 areas linked ascending from FCX D0000, and no second one.
 use Prim.Native.Nat.{ℕ, zero, suc, _+_, _*_}
 use mathlib.Core.Bool.{cond}
 use mathlib.Core.List.{List, [], _∷_}
 use lib.ListN.{length, replicate}
 use lib.Dec.{ltb, leb}
 use Rattle.memory.specs.Word.{wordAt, putWord}
-use Rattle.memory.specs.Memory.{Memory, memory}
+use Rattle.memory.specs.Memory.{windows, Memory, memory}
 use Rattle.registers.specs.Registers.{registers, pc, fcx, pcxi}
 use Rattle.registers.specs.declared.Registers.{Registers}
 use Rattle.inputs.specs.Checks.{startVerdict}
@@ -24,9 +24,9 @@ linked (suc k) = putWord (linked k) (64 * k) (linkAfter k)
 unfoldable pub startBytes : List ℕ
 startBytes = linked 64
 
--- the window of these bytes, at its address
+-- a window of these bytes at its address, and a second one of length 0
 abbrev pub windowOf : List ℕ → Memory
-windowOf bytes = memory 0xD000_0000 bytes
+windowOf bytes = memory (windows 0xD000_0000 (length bytes) 0) bytes
 
 -- the first load address: the image's second word (an image without one is refused by rule 2)
 unfoldable pub firstAddress : List ℕ → ℕ
@@ -37,7 +37,7 @@ unfoldable pub startRegisters : List ℕ → Registers
 startRegisters img =
     registers (replicate 16 0) (replicate 16 0) (firstAddress img ∷ 0xB80 ∷ 0 ∷ 0xD_0000 ∷ 0 ∷ 0 ∷ 0 ∷ 0 ∷ 0x8001_0000 ∷ 0 ∷ [])
 
--- the six rules of a start, tried with these
+-- the seven rules of a start, tried with these
 abbrev pub startVerdictOf : List ℕ → Verdict
 startVerdictOf img = let r = startRegisters img in startVerdict (windowOf startBytes) img (pc r) (fcx r) (pcxi r)
 

@@ -1,4 +1,4 @@
-// The machine with one window: the second has no bytes.
+// The checks and the step with one window: a second one of length 0 is lent beside it.
 
 use crate::start::BASE;
 use areas::link::Address;
@@ -12,12 +12,13 @@ ghost use mathlib.Core.Path.{_≡_};
 ghost use Rattle.inputs.specs.Checks.{startVerdict};
 ghost use Rattle.machine.specs.Step.{stepped, stepOf};
 ghost use Rattle.machine.specs.Inner.{Ready};
-ghost use Rattle.walk.specs.Start.{alone};
+ghost use Rattle.walk.specs.Start.{windowOf};
 
+// Any address: the second window has no bytes.
 const NONE: Address = Address(0);
 
 pub fn try_alone(window: &[u8], image: &[u8], pc: u32, fcx: u32, pcxi: u32) -> Verdict
-    ensures { λ r. ⌜ r ≡ startVerdict (alone (now (window .entry))) (now (image .entry)) pc fcx pcxi ⌝ }
+    ensures { λ r. ⌜ r ≡ startVerdict (windowOf (now (window .entry))) (now (image .entry)) pc fcx pcxi ⌝ }
 {
     let none = [0; 0];
     try_start(BASE, window, NONE, &none, image, pc, fcx, pcxi)
@@ -30,9 +31,9 @@ pub fn step_alone(
     requests: [u32; 16],
     ranges: [Range; 32],
 ) -> Stepped
-    requires { ⌜ Ready (now image) registers (alone (now window)) ⌝ }
-    ensures { λ r. ⌜ stepped (r .outcome) (r .registers) (r .requests) (alone (now (window .exit))) ≡ stepOf (now (image .entry)) registers requests ranges (alone (now (window .entry))) ⌝ }
-    ensures { λ r. ⌜ Ready (now (image .entry)) (r .registers) (alone (now (window .exit))) ⌝ }
+    requires { ⌜ Ready (now image) registers (windowOf (now window)) ⌝ }
+    ensures { λ r. ⌜ stepped (r .outcome) (r .registers) (r .requests) (windowOf (now (window .exit))) (r .permits) ≡ stepOf (now (image .entry)) registers requests ranges (windowOf (now (window .entry))) ⌝ }
+    ensures { λ r. ⌜ Ready (now (image .entry)) (r .registers) (windowOf (now (window .exit))) ⌝ }
 {
     let mut none = [0; 0];
     step_accepted(

@@ -1,20 +1,19 @@
 // The walk in blocks: each fills the buffer, which the program then writes out.
 
+use crate::alone::step_alone;
+use crate::alone::try_alone;
 use crate::lines::put_end;
 use crate::lines::put_header;
 use crate::lines::put_line;
 use crate::lines::put_long;
 use crate::lines::put_refused;
 use crate::lines::put_stop;
-use crate::start::BASE;
 use crate::start::no_ranges;
 use crate::start::start_registers;
 use crate::start::start_window;
 use events::event::Event;
-use inputs::checks::try_start;
 use inputs::verdict::Verdict;
 use machine::answer::Outcome;
-use machine::steps::step_accepted;
 use registers::FCX;
 use registers::PC;
 use registers::PCXI;
@@ -70,8 +69,7 @@ pub fn begin(image: &[u8], out: &mut [u8; 65536]) -> Walk
             len: long,
         };
     }
-    match try_start(
-        BASE,
+    match try_alone(
         &window,
         image,
         registers.core[PC],
@@ -128,7 +126,7 @@ pub fn go_on(image: &[u8], w: Walk, out: &mut [u8; 65536]) -> Walk
             };
         }
         let pc = registers.core[PC];
-        let s = step_accepted(BASE, &mut window, image, registers, requests, ranges);
+        let s = step_alone(&mut window, image, registers, requests, ranges);
         registers = s.registers;
         requests = s.requests;
         let outcome = s.outcome;

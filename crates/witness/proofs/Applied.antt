@@ -3,22 +3,22 @@
 use native.Mathlib.Omega.{arith}
 use Prim.Native.Nat.{ℕ, _^_, _<_}
 use mathlib.Core.Path.{refl}
-use mathlib.Core.List.{List}
+use mathlib.Core.List.{List, _++_}
 use lib.ListN.{getD}
 use Rattle.words.specs.Bits.{bit}
 use Rattle.fields.specs.Field.{isSet}
 use Rattle.memory.specs.Word.{wordAt, wordsAt}
-use Rattle.areas.specs.Place.{placedAt, placedIn}
+use Rattle.areas.specs.Place.{placedAt, spotAt, placedIn}
 use Rattle.decisions.specs.Valid.{Valid, Bytes}
 use Rattle.series.specs.Abstract.{held}
 use Rattle.series.specs.Claim.{Agree, Claim}
 use Rattle.series.proofs.Starts.{follows}
 use Rattle.witness.specs.Bytes.{Below, each-below, bytes-by}
-use Rattle.witness.specs.Start.{startD, startA, startCore, window, start}
+use Rattle.witness.specs.Start.{startD, startA, startCore, window, window2, start}
 use Rattle.witness.specs.Series.{interrupted, calls}
 use Rattle.witness.specs.Lists.{begun}
 use Rattle.witness.specs.Witness.{Witness}
-use Rattle.witness.proofs.Example.{accepted, happened, no-area-left, no-area-used, after, restored, stored}
+use Rattle.witness.proofs.Example.{accepted, crossing, happened, no-area-left, no-area-used, after, restored, stored}
 use Rattle.witness.proofs.Quiet.{quiet}
 
 words : (xs : List ℕ) → Below (2 ^ 32) xs → (k : ℕ) → getD xs k 0 < 2 ^ 32
@@ -34,14 +34,14 @@ valid =
     }
 
 bytes : Bytes (start .memory .bytes)
-bytes = bytes-by window _
+bytes = bytes-by (window ++ window2) _
 
 agree : Agree start begun
-unfolding bit isSet wordAt wordsAt placedAt placedIn held
+unfolding bit isSet wordAt wordsAt placedAt spotAt placedIn held
 agree =
     record {
-      free = (refl, λ e. omega (arith, e), 0, refl, (refl, λ e. omega (arith, e), 64, refl, (refl, λ e. omega (arith, e), 128, refl, refl)));
-      saved = (refl, λ e. omega (arith, e), refl, 192, refl, refl, (refl, λ e. omega (arith, e), refl, 256, refl, refl, refl));
+      free = (refl, λ e. omega (arith, e), 0, refl, (refl, λ e. omega (arith, e), 192, refl, (refl, λ e. omega (arith, e), 64, refl, refl)));
+      saved = (refl, λ e. omega (arith, e), refl, 256, refl, refl, (refl, λ e. omega (arith, e), refl, 128, refl, refl, refl));
     }
 
 claim : Claim start begun calls
@@ -52,6 +52,7 @@ applied =
     record {
       accepted = accepted;
       agree = agree;
+      crossing = crossing;
       quiet = quiet;
       happened = happened;
       no-area-left = no-area-left;

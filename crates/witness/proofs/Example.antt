@@ -1,7 +1,7 @@
 -- The series, by computation.
 -- Assumes nothing.
 use mathlib.Core.Path.{_≡_, refl}
-use mathlib.Core.List.{_++_}
+use mathlib.Core.List.{[], _∷_, _++_}
 use Rattle.words.specs.Bits.{bit}
 use Rattle.fields.specs.Field.{isSet}
 use Rattle.fields.specs.Depth.{counterBits, counts, overflowsUp, underflowsDown, nested, calledOf}
@@ -10,10 +10,11 @@ use Rattle.fields.specs.Pcxi.{pcxiOf}
 use Rattle.fields.specs.Request.{requests, clearedOf}
 use Rattle.memory.specs.Word.{wordAt, wordsAt, putWord, putWords}
 use Rattle.registers.specs.Registers.{plusOf, pc, fcx, pcxi}
-use Rattle.areas.specs.Place.{placedAt, placedIn}
+use Rattle.areas.specs.Place.{placedAt, spotAt, placedIn}
+use Rattle.areas.specs.declared.link.Spot.the-variants.{First, Second}
 use Rattle.lists.specs.Walk.{walkOf, listsOf}
 use Rattle.contexts.specs.Context.{upperOf, lowerOf}
-use Rattle.contexts.specs.Save.{roomAt, takeOf, saveAtOf, saveOf}
+use Rattle.contexts.specs.Save.{roomAt, takeOf, foreseenOf, saveAtOf, saveOf}
 use Rattle.contexts.specs.Restore.{loadOf, returnOf}
 use Rattle.entries.specs.Entry.{stackOf, enteredOf, trapEntry, interruptEntry, interruptOf, trapOf, fcdOf}
 use Rattle.protection.specs.Range.{enables, permits, firstOf, anyFrom}
@@ -39,35 +40,40 @@ use Rattle.machine.specs.Run.{runFrom, runOf}
 use Rattle.series.specs.Calls.{afterAll, runArgs, allArgs}
 use Rattle.series.specs.Abstract.{upperRegisters, lowerRegisters, moved}
 use Rattle.series.specs.Conditions.{movedAt, movedAll}
+use Rattle.series.specs.Claim.{listed}
 use Rattle.witness.specs.Start.{start}
 use Rattle.witness.specs.Series.{interrupted, saving, returning, calls}
 use Rattle.witness.specs.Lists.{begun, depleted, allFree, ended}
-use Rattle.witness.specs.Witness.{outcomes, happening, loaded}
+use Rattle.witness.specs.Witness.{spots, outcomes, happening, loaded}
 
 pub accepted : startVerdict (start .memory) (interrupted .bytes) (pc (start .registers)) (fcx (start .registers)) (pcxi (start .registers)) ≡ Accepted
-unfolding wordAt placedAt placedIn walkOf listsOf entryAt entryHolds entriesFrom tableOf recordHolds recordsFrom imageOf windowHolds secondHolds apartHolds windowsVerdict stepVerdict startVerdict
+unfolding wordAt placedAt spotAt placedIn walkOf listsOf entryAt entryHolds entriesFrom tableOf recordHolds recordsFrom imageOf windowHolds secondHolds apartHolds windowsVerdict stepVerdict startVerdict
 accepted = refl
 
+pub crossing : spots (start .memory) (listed begun) ≡ First 0 ∷ Second 0 ∷ First 64 ∷ Second 64 ∷ First 128 ∷ []
+unfolding spotAt placedIn
+crossing = refl
+
 pub happened : outcomes (allArgs calls start) ≡ happening
-unfolding bit isSet counterBits counts overflowsUp underflowsDown nested calledOf icrOf pcxiOf requests clearedOf wordAt wordsAt putWord putWords plusOf placedAt placedIn upperOf lowerOf roomAt takeOf saveAtOf saveOf loadOf returnOf stackOf enteredOf trapEntry interruptEntry interruptOf trapOf fcdOf betterOf bestBelow takes clearedAt enables permits firstOf anyFrom checkOf operationOf entryAt entryHolds entriesFrom tableOf recordHolds recordsFrom imageOf restFrom restOf instructionAt fetchOf windowHolds secondHolds apartHolds windowsVerdict stepVerdict calledThen callOf svlcxOf bisrThen bisrOf previousOf retOf rfeOf rslcxOf contextOp alignedReach reachOf storeOf actOf finishOf executeOf instructionOf oneOf requestsOf stepOf runFrom runOf runArgs
+unfolding bit isSet counterBits counts overflowsUp underflowsDown nested calledOf icrOf pcxiOf requests clearedOf wordAt wordsAt putWord putWords plusOf placedAt spotAt placedIn upperOf lowerOf roomAt takeOf foreseenOf saveAtOf saveOf loadOf returnOf stackOf enteredOf trapEntry interruptEntry interruptOf trapOf fcdOf betterOf bestBelow takes clearedAt enables permits firstOf anyFrom checkOf operationOf entryAt entryHolds entriesFrom tableOf recordHolds recordsFrom imageOf restFrom restOf instructionAt fetchOf windowHolds secondHolds apartHolds windowsVerdict stepVerdict calledThen callOf svlcxOf bisrThen bisrOf previousOf retOf rfeOf rslcxOf contextOp alignedReach reachOf storeOf actOf finishOf executeOf instructionOf oneOf requestsOf stepOf runFrom runOf runArgs
 happened = refl
 
 pub no-area-left : movedAll (allArgs saving start) begun ≡ depleted
-unfolding bit isSet counterBits counts overflowsUp underflowsDown nested calledOf icrOf pcxiOf requests clearedOf wordAt wordsAt putWord putWords plusOf placedAt placedIn upperOf lowerOf roomAt takeOf saveAtOf saveOf loadOf returnOf stackOf enteredOf trapEntry interruptEntry interruptOf trapOf fcdOf betterOf bestBelow takes clearedAt enables permits firstOf anyFrom checkOf operationOf entryAt entryHolds entriesFrom tableOf recordHolds recordsFrom imageOf restFrom restOf instructionAt fetchOf windowHolds secondHolds apartHolds windowsVerdict stepVerdict calledThen callOf svlcxOf bisrThen bisrOf previousOf retOf rfeOf rslcxOf contextOp alignedReach reachOf storeOf actOf finishOf executeOf instructionOf oneOf requestsOf stepOf runFrom runOf runArgs decisionOf upperRegisters lowerRegisters moved movedAt
+unfolding bit isSet counterBits counts overflowsUp underflowsDown nested calledOf icrOf pcxiOf requests clearedOf wordAt wordsAt putWord putWords plusOf placedAt spotAt placedIn upperOf lowerOf roomAt takeOf foreseenOf saveAtOf saveOf loadOf returnOf stackOf enteredOf trapEntry interruptEntry interruptOf trapOf fcdOf betterOf bestBelow takes clearedAt enables permits firstOf anyFrom checkOf operationOf entryAt entryHolds entriesFrom tableOf recordHolds recordsFrom imageOf restFrom restOf instructionAt fetchOf windowHolds secondHolds apartHolds windowsVerdict stepVerdict calledThen callOf svlcxOf bisrThen bisrOf previousOf retOf rfeOf rslcxOf contextOp alignedReach reachOf storeOf actOf finishOf executeOf instructionOf oneOf requestsOf stepOf runFrom runOf runArgs decisionOf upperRegisters lowerRegisters moved movedAt
 no-area-left = refl
 
 pub no-area-used : movedAll (allArgs (saving ++ returning) start) begun ≡ allFree
-unfolding bit isSet counterBits counts overflowsUp underflowsDown nested calledOf icrOf pcxiOf requests clearedOf wordAt wordsAt putWord putWords plusOf placedAt placedIn upperOf lowerOf roomAt takeOf saveAtOf saveOf loadOf returnOf stackOf enteredOf trapEntry interruptEntry interruptOf trapOf fcdOf betterOf bestBelow takes clearedAt enables permits firstOf anyFrom checkOf operationOf entryAt entryHolds entriesFrom tableOf recordHolds recordsFrom imageOf restFrom restOf instructionAt fetchOf windowHolds secondHolds apartHolds windowsVerdict stepVerdict calledThen callOf svlcxOf bisrThen bisrOf previousOf retOf rfeOf rslcxOf contextOp alignedReach reachOf storeOf actOf finishOf executeOf instructionOf oneOf requestsOf stepOf runFrom runOf runArgs decisionOf upperRegisters lowerRegisters moved movedAt
+unfolding bit isSet counterBits counts overflowsUp underflowsDown nested calledOf icrOf pcxiOf requests clearedOf wordAt wordsAt putWord putWords plusOf placedAt spotAt placedIn upperOf lowerOf roomAt takeOf foreseenOf saveAtOf saveOf loadOf returnOf stackOf enteredOf trapEntry interruptEntry interruptOf trapOf fcdOf betterOf bestBelow takes clearedAt enables permits firstOf anyFrom checkOf operationOf entryAt entryHolds entriesFrom tableOf recordHolds recordsFrom imageOf restFrom restOf instructionAt fetchOf windowHolds secondHolds apartHolds windowsVerdict stepVerdict calledThen callOf svlcxOf bisrThen bisrOf previousOf retOf rfeOf rslcxOf contextOp alignedReach reachOf storeOf actOf finishOf executeOf instructionOf oneOf requestsOf stepOf runFrom runOf runArgs decisionOf upperRegisters lowerRegisters moved movedAt
 no-area-used = refl
 
 pub after : movedAll (allArgs calls start) begun ≡ ended
-unfolding bit isSet counterBits counts overflowsUp underflowsDown nested calledOf icrOf pcxiOf requests clearedOf wordAt wordsAt putWord putWords plusOf placedAt placedIn upperOf lowerOf roomAt takeOf saveAtOf saveOf loadOf returnOf stackOf enteredOf trapEntry interruptEntry interruptOf trapOf fcdOf betterOf bestBelow takes clearedAt enables permits firstOf anyFrom checkOf operationOf entryAt entryHolds entriesFrom tableOf recordHolds recordsFrom imageOf restFrom restOf instructionAt fetchOf windowHolds secondHolds apartHolds windowsVerdict stepVerdict calledThen callOf svlcxOf bisrThen bisrOf previousOf retOf rfeOf rslcxOf contextOp alignedReach reachOf storeOf actOf finishOf executeOf instructionOf oneOf requestsOf stepOf runFrom runOf runArgs decisionOf upperRegisters lowerRegisters moved movedAt
+unfolding bit isSet counterBits counts overflowsUp underflowsDown nested calledOf icrOf pcxiOf requests clearedOf wordAt wordsAt putWord putWords plusOf placedAt spotAt placedIn upperOf lowerOf roomAt takeOf foreseenOf saveAtOf saveOf loadOf returnOf stackOf enteredOf trapEntry interruptEntry interruptOf trapOf fcdOf betterOf bestBelow takes clearedAt enables permits firstOf anyFrom checkOf operationOf entryAt entryHolds entriesFrom tableOf recordHolds recordsFrom imageOf restFrom restOf instructionAt fetchOf windowHolds secondHolds apartHolds windowsVerdict stepVerdict calledThen callOf svlcxOf bisrThen bisrOf previousOf retOf rfeOf rslcxOf contextOp alignedReach reachOf storeOf actOf finishOf executeOf instructionOf oneOf requestsOf stepOf runFrom runOf runArgs decisionOf upperRegisters lowerRegisters moved movedAt
 after = refl
 
 pub restored : afterAll (saving ++ returning) start .registers ≡ loaded
-unfolding bit isSet counterBits counts overflowsUp underflowsDown nested calledOf icrOf pcxiOf requests clearedOf wordAt wordsAt putWord putWords plusOf placedAt placedIn upperOf lowerOf roomAt takeOf saveAtOf saveOf loadOf returnOf stackOf enteredOf trapEntry interruptEntry interruptOf trapOf fcdOf betterOf bestBelow takes clearedAt enables permits firstOf anyFrom checkOf operationOf entryAt entryHolds entriesFrom tableOf recordHolds recordsFrom imageOf restFrom restOf instructionAt fetchOf windowHolds secondHolds apartHolds windowsVerdict stepVerdict calledThen callOf svlcxOf bisrThen bisrOf previousOf retOf rfeOf rslcxOf contextOp alignedReach reachOf storeOf actOf finishOf executeOf instructionOf oneOf requestsOf stepOf runFrom runOf runArgs
+unfolding bit isSet counterBits counts overflowsUp underflowsDown nested calledOf icrOf pcxiOf requests clearedOf wordAt wordsAt putWord putWords plusOf placedAt spotAt placedIn upperOf lowerOf roomAt takeOf foreseenOf saveAtOf saveOf loadOf returnOf stackOf enteredOf trapEntry interruptEntry interruptOf trapOf fcdOf betterOf bestBelow takes clearedAt enables permits firstOf anyFrom checkOf operationOf entryAt entryHolds entriesFrom tableOf recordHolds recordsFrom imageOf restFrom restOf instructionAt fetchOf windowHolds secondHolds apartHolds windowsVerdict stepVerdict calledThen callOf svlcxOf bisrThen bisrOf previousOf retOf rfeOf rslcxOf contextOp alignedReach reachOf storeOf actOf finishOf executeOf instructionOf oneOf requestsOf stepOf runFrom runOf runArgs
 restored = refl
 
 pub stored : wordAt (afterAll calls start .memory .bytes) 320 ≡ 1
-unfolding bit isSet counterBits counts overflowsUp underflowsDown nested calledOf icrOf pcxiOf requests clearedOf wordAt wordsAt putWord putWords plusOf placedAt placedIn upperOf lowerOf roomAt takeOf saveAtOf saveOf loadOf returnOf stackOf enteredOf trapEntry interruptEntry interruptOf trapOf fcdOf betterOf bestBelow takes clearedAt enables permits firstOf anyFrom checkOf operationOf entryAt entryHolds entriesFrom tableOf recordHolds recordsFrom imageOf restFrom restOf instructionAt fetchOf windowHolds secondHolds apartHolds windowsVerdict stepVerdict calledThen callOf svlcxOf bisrThen bisrOf previousOf retOf rfeOf rslcxOf contextOp alignedReach reachOf storeOf actOf finishOf executeOf instructionOf oneOf requestsOf stepOf runFrom runOf runArgs
+unfolding bit isSet counterBits counts overflowsUp underflowsDown nested calledOf icrOf pcxiOf requests clearedOf wordAt wordsAt putWord putWords plusOf placedAt spotAt placedIn upperOf lowerOf roomAt takeOf foreseenOf saveAtOf saveOf loadOf returnOf stackOf enteredOf trapEntry interruptEntry interruptOf trapOf fcdOf betterOf bestBelow takes clearedAt enables permits firstOf anyFrom checkOf operationOf entryAt entryHolds entriesFrom tableOf recordHolds recordsFrom imageOf restFrom restOf instructionAt fetchOf windowHolds secondHolds apartHolds windowsVerdict stepVerdict calledThen callOf svlcxOf bisrThen bisrOf previousOf retOf rfeOf rslcxOf contextOp alignedReach reachOf storeOf actOf finishOf executeOf instructionOf oneOf requestsOf stepOf runFrom runOf runArgs
 stored = refl

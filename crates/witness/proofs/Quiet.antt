@@ -17,11 +17,11 @@ use Rattle.memory.specs.Word.{wordAt, wordsAt, putWord, putWords}
 use Rattle.registers.specs.Registers.{plusOf}
 use Rattle.areas.specs.declared.link.Link.{Link}
 use Rattle.areas.specs.declared.link.Place.the-variants.{At}
-use Rattle.areas.specs.Place.{placedAt, placedIn, placeOf}
+use Rattle.areas.specs.Place.{placedAt, spotAt, placedIn, placeOf}
 use Rattle.lists.specs.Lists.{count}
 use Rattle.lists.proofs.Counts.{same?, one-other}
 use Rattle.contexts.specs.Context.{upperOf, lowerOf}
-use Rattle.contexts.specs.Save.{roomAt, takeOf, saveAtOf, saveOf}
+use Rattle.contexts.specs.Save.{roomAt, takeOf, foreseenOf, saveAtOf, saveOf}
 use Rattle.contexts.specs.Restore.{loadOf, returnOf}
 use Rattle.entries.specs.Entry.{stackOf, enteredOf, trapEntry, interruptEntry, interruptOf, trapOf, fcdOf}
 use Rattle.protection.specs.Range.{enables, permits, firstOf, anyFrom}
@@ -70,9 +70,9 @@ before m e (k ∷ ks) h l c area p =
 
 -- its one store: ST.W at byte 320, of four bytes
 away : Apart (listed begun) (start .memory) StW 320
-unfolding placedAt placedIn
+unfolding placedAt spotAt placedIn
 away l c area p k a b d e =
-    let t = before (start .memory) 320 (listed begun) ((0, refl, omega arith), ((64, refl, omega arith), ((128, refl, omega arith), ((192, refl, omega arith), ((256, refl, omega arith), tt))))) l c area p in
+    let t = before (start .memory) 320 (listed begun) ((0, refl, omega arith), ((192, refl, omega arith), ((64, refl, omega arith), ((256, refl, omega arith), ((128, refl, omega arith), tt))))) l c area p in
     omega (arith, t, a, e)
 
 still : {L : List Link} {a : Args} → StoreApart L (a .memory) (decisionAt a) → stepHeads (a .image .bytes) (a .registers) (a .requests) (a .ranges) ≡ false → Quiet L a
@@ -80,6 +80,6 @@ still s h = record { stores = s; heads = h }
 
 -- the fifth step is refused
 pub quiet : AllQuiet (listed begun) (allArgs calls start)
-unfolding bit isSet counterBits counts overflowsUp underflowsDown nested calledOf icrOf pcxiOf requests clearedOf wordAt wordsAt putWord putWords plusOf placedAt placedIn upperOf lowerOf roomAt takeOf saveAtOf saveOf loadOf returnOf stackOf enteredOf trapEntry interruptEntry interruptOf trapOf fcdOf betterOf bestBelow takes clearedAt enables permits firstOf anyFrom checkOf operationOf entryAt entryHolds entriesFrom tableOf recordHolds recordsFrom imageOf restFrom restOf instructionAt fetchOf windowHolds secondHolds apartHolds windowsVerdict stepVerdict calledThen callOf svlcxOf bisrThen bisrOf previousOf retOf rfeOf rslcxOf contextOp alignedReach reachOf storeOf actOf finishOf executeOf instructionOf oneOf requestsOf stepOf runFrom runOf runArgs stepHeads decisionOf
+unfolding bit isSet counterBits counts overflowsUp underflowsDown nested calledOf icrOf pcxiOf requests clearedOf wordAt wordsAt putWord putWords plusOf placedAt spotAt placedIn upperOf lowerOf roomAt takeOf foreseenOf saveAtOf saveOf loadOf returnOf stackOf enteredOf trapEntry interruptEntry interruptOf trapOf fcdOf betterOf bestBelow takes clearedAt enables permits firstOf anyFrom checkOf operationOf entryAt entryHolds entriesFrom tableOf recordHolds recordsFrom imageOf restFrom restOf instructionAt fetchOf windowHolds secondHolds apartHolds windowsVerdict stepVerdict calledThen callOf svlcxOf bisrThen bisrOf previousOf retOf rfeOf rslcxOf contextOp alignedReach reachOf storeOf actOf finishOf executeOf instructionOf oneOf requestsOf stepOf runFrom runOf runArgs stepHeads decisionOf
 quiet =
     (still tt refl, (still tt refl, (still away refl, (still tt refl, (tt, (still tt refl, (still tt refl, (still tt refl, (still tt refl, (still tt refl, (still tt refl, (still tt refl, tt))))))))))))

@@ -1,4 +1,4 @@
--- A start that all six rules accept: three free areas, two in use, and one on neither list.
+-- A start that all seven rules accept: two windows in two segments, and in them three free areas, two in use, and one on neither list. Both lists cross between the windows.
 use Prim.Native.Nat.{ℕ, _/_, _%_, _^_}
 use mathlib.Core.List.{List, [], _∷_, _++_}
 use lib.ListN.{replicate}
@@ -17,15 +17,15 @@ startD = 0x01 ∷ 0x02 ∷ 0x03 ∷ 0x04 ∷ 0x05 ∷ 0x06 ∷ 0x07 ∷ 0x08 ∷
 
 -- A0 to A15; A5 is the address of the area on neither list
 abbrev pub startA : List ℕ
-startA = 0x21 ∷ 0x22 ∷ 0x23 ∷ 0x24 ∷ 0x25 ∷ 0xD000_0140 ∷ 0x27 ∷ 0x28 ∷ 0x29 ∷ 0x2A ∷ 0x2B ∷ 0x8000_0004 ∷ 0x2D ∷ 0x2E ∷ 0x2F ∷ 0x30 ∷ []
+startA = 0x21 ∷ 0x22 ∷ 0x23 ∷ 0x24 ∷ 0x25 ∷ 0xC000_0080 ∷ 0x27 ∷ 0x28 ∷ 0x29 ∷ 0x2A ∷ 0x2B ∷ 0x8000_0004 ∷ 0x2D ∷ 0x2E ∷ 0x2F ∷ 0x30 ∷ []
 
 -- PC, PSW, PCXI, FCX, LCX, ICR, ISP, BIV, BTV, SYSCON: interrupts are enabled at CCPN 5, protection is on, and LCX is the second free area's link
 abbrev pub startCore : List ℕ
-startCore = 0x8000_0000 ∷ 0x0000_0981 ∷ 0x02CD_0003 ∷ 0x000D_0000 ∷ 0x000D_0001 ∷ 0x0000_0105 ∷ 0x9000_0000 ∷ 0x8000_0000 ∷ 0x8000_0000 ∷ 2 ∷ []
+startCore = 0x8000_0000 ∷ 0x0000_0981 ∷ 0x02CC_0001 ∷ 0x000D_0000 ∷ 0x000C_0000 ∷ 0x0000_0105 ∷ 0x9000_0000 ∷ 0x8000_0000 ∷ 0x8000_0000 ∷ 2 ∷ []
 
 -- the contexts in use: an upper one, whose first word links to a lower one
 abbrev pub upperWords : List ℕ
-upperWords = 0x010D_0004 ∷ 0x0000_0B80 ∷ 0x41 ∷ 0x42 ∷ 0x43 ∷ 0x44 ∷ 0x45 ∷ 0x46 ∷ 0x51 ∷ 0x52 ∷ 0x53 ∷ 0x54 ∷ 0x55 ∷ 0x56 ∷ 0x57 ∷ 0x58 ∷ []
+upperWords = 0x010D_0002 ∷ 0x0000_0B80 ∷ 0x41 ∷ 0x42 ∷ 0x43 ∷ 0x44 ∷ 0x45 ∷ 0x46 ∷ 0x51 ∷ 0x52 ∷ 0x53 ∷ 0x54 ∷ 0x55 ∷ 0x56 ∷ 0x57 ∷ 0x58 ∷ []
 
 abbrev pub lowerWords : List ℕ
 lowerWords = 0 ∷ 0x8000_0040 ∷ 0x61 ∷ 0x62 ∷ 0x63 ∷ 0x64 ∷ 0x65 ∷ 0x66 ∷ 0x71 ∷ 0x72 ∷ 0x73 ∷ 0x74 ∷ 0x75 ∷ 0x76 ∷ 0x77 ∷ 0x78 ∷ []
@@ -34,10 +34,14 @@ lowerWords = 0 ∷ 0x8000_0040 ∷ 0x61 ∷ 0x62 ∷ 0x63 ∷ 0x64 ∷ 0x65 ∷ 
 abbrev pub linked : ℕ → List ℕ
 linked l = l ∷ replicate 15 0
 
--- six areas: three free, two in use, and one on neither list
+-- the first window: the first and the third free area, and the second in use
 abbrev pub window : List ℕ
-window = inBytes (linked 0xD_0001) ++ inBytes (linked 0xD_0002) ++ inBytes (linked 0) ++ inBytes upperWords ++ inBytes lowerWords ++ inBytes (replicate 16 0)
+window = inBytes (linked 0xC_0000) ++ inBytes (linked 0) ++ inBytes lowerWords
 
--- the window is at D0000000
+-- the second window: the second free area, the first in use, and one on neither list
+abbrev pub window2 : List ℕ
+window2 = inBytes (linked 0xD_0001) ++ inBytes upperWords ++ inBytes (replicate 16 0)
+
+-- they lie at D0000000 and C0000000
 abbrev pub start : State
-start = state (registers startD startA startCore) (lent 0xD000_0000 window 0 [])
+start = state (registers startD startA startCore) (lent 0xD000_0000 window 0xC000_0000 window2)

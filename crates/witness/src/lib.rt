@@ -2,7 +2,7 @@
 
 ghost use Rattle.witness.specs.Witness.{Witness};
 
-// The theorem of demand 3, applied to a series with an interrupt, an FCD entry, a store, a stop, a refusal and returns.
+// The theorem of demand 3, applied to lists that cross between two windows, and a series with an interrupt, an FCD entry, a store, a stop, a refusal and returns.
 pub fn witness()
     ensures { λ _. ⌜ Witness ⌝ }
 {}

@@ -1,6 +1,5 @@
 -- `walk::alone::step_alone` meets its contract. Assumes nothing.
 use borrow.Author.Needs.{needs}
-use mathlib.Core.Path.{sym, subst}
 use mathlib.Core.List.{append-nil}
 use Rattle.walk.proofs.Single.{single-step, single-ready}
 use Rattle.walk.proofs.alone.step_alone.Statement.{statement}
@@ -14,7 +13,7 @@ returns c =
     let s = c .before .before .before .step-accepted in
     let a = c .before .before .before .before .before .before .before .before .args in (
       single-step _ _ (s .kept .1 .1 .1 .0) (a .image .now) (a .registers) (a .requests) (a .ranges) (a .window .now) (s .ensures .0),
-      single-ready _ _ (s .kept .1 .1 .1 .0) (s .ensures .1 .1 .1),
+      single-ready _ _ (s .kept .1 .1 .1 .0) (s .ensures .1),
     )
 
 pub step-alone-spec : {M : Type 1} → statement M

@@ -11,11 +11,11 @@ returns : tie.Need-returns
 returns c = begun-long _ _ _ (c .before .before .before .before .start-window .ensures) (c .before .before .before .start-registers .ensures) (c .before .before .if1 .taken) (c .put-long .ensures)
 
 returns-2 : tie.Need-returns-2
-returns-2 c = begun-refused _ _ _ (c .before .before .before .before .before .before .before .before .before .before .before .before .start-window .ensures) (c .before .before .before .before .before .before .before .before .before .before .before .start-registers .ensures) (c .before .before .before .before .before .before .before .before .before .before .if1 .left) _ (sym (c .before .before .before .before .before .try-start .ensures .0 .0) ∙ c .before .before .before .x .given .1) (c .put-refused .ensures)
+returns-2 c = begun-refused _ _ _ (c .before .before .before .before .before .before .before .before .before .before .before .before .start-window .ensures) (c .before .before .before .before .before .before .before .before .before .before .before .start-registers .ensures) (c .before .before .before .before .before .before .before .before .before .before .if1 .left) _ (sym (c .before .before .before .before .before .try-alone .ensures) ∙ c .before .before .before .x .given .1) (c .put-refused .ensures)
 
 returns-3 : tie.Need-returns-3
 returns-3 c =
-    let g = sym (c .before .before .before .before .try-start .ensures .0 .0) ∙ c .before .before .enum-told .given .1 in
+    let g = sym (c .before .before .before .before .try-alone .ensures) ∙ c .before .before .enum-told .given .1 in
     let f = c .before .before .before .before .before .before .before .before .before .before .before .start-window .ensures in
     let e = c .before .before .before .before .before .before .before .before .before .before .start-registers .ensures in
     let a = start-step _ _ _ f e g in

@@ -27,13 +27,13 @@ element-copy-out-pc : tie.Need-element-copy-out-pc Inv-loop μ-loop
 element-copy-out-pc c = omega (arith, c .before .before .loop .inv .ready .valid .core .size)
 
 element-copy-out-put-line : tie.Need-element-copy-out-put-line Inv-loop μ-loop
-element-copy-out-put-line c = omega (arith, c .before .before .before .before .before .before .before .step-accepted .ensures .1 .valid .core .size)
+element-copy-out-put-line c = omega (arith, c .before .before .before .before .before .before .before .step-alone .ensures .1 .valid .core .size)
 
 element-copy-out-put-line-2 : tie.Need-element-copy-out-put-line-2 Inv-loop μ-loop
-element-copy-out-put-line-2 c = omega (arith, c .before .before .before .before .before .before .before .before .step-accepted .ensures .1 .valid .core .size)
+element-copy-out-put-line-2 c = omega (arith, c .before .before .before .before .before .before .before .before .step-alone .ensures .1 .valid .core .size)
 
 element-copy-out-put-line-3 : tie.Need-element-copy-out-put-line-3 Inv-loop μ-loop
-element-copy-out-put-line-3 c = omega (arith, c .before .before .before .before .before .before .before .before .before .step-accepted .ensures .1 .valid .core .size)
+element-copy-out-put-line-3 c = omega (arith, c .before .before .before .before .before .before .before .before .before .step-alone .ensures .1 .valid .core .size)
 
 put-line-requires : tie.Need-put-line-requires Inv-loop μ-loop
 put-line-requires c κs = omega (arith, c .before .before .before .before .before .before .before .before .before .before .before .before .before .if1 .left)
@@ -45,13 +45,13 @@ put-end-requires : tie.Need-put-end-requires Inv-loop μ-loop
 put-end-requires c κs = omega (arith, c .before .before .before .before .before .before .before .before .before .before .before .before .before .before .before .before .before .if1 .left, c .before .before .before .put-line .ensures .room, c .before .before .before .put-line .ensures .size)
 
 returns-2 : tie.Need-returns-2 Inv-loop μ-loop
-returns-2 c = goes-last _ _ (c .before .before .before .before .before .before .before .before .before .before .before .before .before .before .before .before .before .before .before .before .before .before .before .before .before .before .pre .1) (trapped _ _ _ _ _ _ (c .before .before .before .before .before .before .before .before .before .before .before .before .before .before .before .before .before .before .before .before .loop .inv) (c .before .before .before .before .before .before .before .before .before .before .before .before .before .before .before .before .before .before .before .loop-test .taken) (c .before .before .before .before .before .before .before .before .before .before .before .before .before .before .before .before .before .before .if1 .left) (c .before .before .before .before .before .before .before .before .before .before .before .before .before .before .before .before .before .before .before .before .before .before .before .before .no-ranges .ensures) (c .before .before .before .before .before .before .before .before .before .before .before .before .before .before .before .step-accepted .ensures .0) (c .before .before .before .before .before .before .before .before .before .before .outcome .given .1) (c .before .before .before .before .put-line .ensures) (sym (c .before .before .before .is-trap .ensures) ∙ c .before .before .if2 .taken) (c .put-end .ensures))
+returns-2 c = goes-last _ _ (c .before .before .before .before .before .before .before .before .before .before .before .before .before .before .before .before .before .before .before .before .before .before .before .before .before .before .pre .1) (trapped _ _ _ _ _ _ (c .before .before .before .before .before .before .before .before .before .before .before .before .before .before .before .before .before .before .before .before .loop .inv) (c .before .before .before .before .before .before .before .before .before .before .before .before .before .before .before .before .before .before .before .loop-test .taken) (c .before .before .before .before .before .before .before .before .before .before .before .before .before .before .before .before .before .before .if1 .left) (c .before .before .before .before .before .before .before .before .before .before .before .before .before .before .before .before .before .before .before .before .before .before .before .before .no-ranges .ensures) (c .before .before .before .before .before .before .before .before .before .before .before .before .before .before .before .step-alone .ensures .0) (c .before .before .before .before .before .before .before .before .before .before .outcome .given .1) (c .before .before .before .before .put-line .ensures) (sym (c .before .before .before .is-trap .ensures) ∙ c .before .before .if2 .taken) (c .put-end .ensures))
 
 loop-less : tie.Need-loop-less Inv-loop μ-loop
 loop-less c = omega (arith, c .before .before .before .before .before .before .before .before .before .before .before .before .before .before .before .before .before .loop-test .taken)
 
 loop-again : tie.Need-loop-again Inv-loop μ-loop
-loop-again c = on _ _ _ _ _ _ (c .before .before .before .before .before .before .before .before .before .before .before .before .before .before .before .before .before .before .loop .inv) (c .before .before .before .before .before .before .before .before .before .before .before .before .before .before .before .before .before .loop-test .taken) (c .before .before .before .before .before .before .before .before .before .before .before .before .before .before .before .before .if1 .left) (c .before .before .before .before .before .before .before .before .before .before .before .before .before .before .before .before .before .before .before .before .before .before .no-ranges .ensures) (c .before .before .before .before .before .before .before .before .before .before .before .before .before .step-accepted .ensures .0) (c .before .before .before .before .before .before .before .before .outcome .given .1) (c .before .before .before .before .before .before .before .before .before .before .before .before .before .step-accepted .ensures .1) (c .before .before .before .before .before .before .before .before .before .before .before .before .before .step-accepted .kept .1 .0) (c .before .before .put-line .ensures) (sym (c .before .is-trap .ensures) ∙ c .if2 .left)
+loop-again c = on _ _ _ _ _ _ (c .before .before .before .before .before .before .before .before .before .before .before .before .before .before .before .before .before .before .loop .inv) (c .before .before .before .before .before .before .before .before .before .before .before .before .before .before .before .before .before .loop-test .taken) (c .before .before .before .before .before .before .before .before .before .before .before .before .before .before .before .before .if1 .left) (c .before .before .before .before .before .before .before .before .before .before .before .before .before .before .before .before .before .before .before .before .before .before .no-ranges .ensures) (c .before .before .before .before .before .before .before .before .before .before .before .before .before .step-alone .ensures .0) (c .before .before .before .before .before .before .before .before .outcome .given .1) (c .before .before .before .before .before .before .before .before .before .before .before .before .before .step-alone .ensures .1) (c .before .before .before .before .before .before .before .before .before .before .before .before .before .step-alone .kept .1 .0) (c .before .before .put-line .ensures) (sym (c .before .is-trap .ensures) ∙ c .if2 .left)
 
 put-stop-requires : tie.Need-put-stop-requires Inv-loop μ-loop
 put-stop-requires c κs = omega (arith, c .before .before .before .before .before .before .before .before .before .before .if1 .left)
@@ -60,13 +60,13 @@ put-end-requires-2 : tie.Need-put-end-requires-2 Inv-loop μ-loop
 put-end-requires-2 c κs = omega (arith, c .before .before .before .before .before .before .before .before .before .before .before .before .if1 .left, c .before .put-stop .ensures .room, c .before .put-stop .ensures .size)
 
 returns-3 : tie.Need-returns-3 Inv-loop μ-loop
-returns-3 c = goes-last _ _ (c .before .before .before .before .before .before .before .before .before .before .before .before .before .before .before .before .before .before .before .before .before .pre .1) (stopped _ _ _ _ _ _ (c .before .before .before .before .before .before .before .before .before .before .before .before .before .before .before .loop .inv) (c .before .before .before .before .before .before .before .before .before .before .before .before .before .before .loop-test .taken) (c .before .before .before .before .before .before .before .before .before .before .before .before .before .if1 .left) (c .before .before .before .before .before .before .before .before .before .before .before .before .before .before .before .before .before .before .before .no-ranges .ensures) (c .before .before .before .before .before .before .before .before .before .before .step-accepted .ensures .0) (c .before .before .before .before .before .outcome2 .given .1) (c .before .before .put-stop .ensures) (c .put-end2 .ensures))
+returns-3 c = goes-last _ _ (c .before .before .before .before .before .before .before .before .before .before .before .before .before .before .before .before .before .before .before .before .before .pre .1) (stopped _ _ _ _ _ _ (c .before .before .before .before .before .before .before .before .before .before .before .before .before .before .before .loop .inv) (c .before .before .before .before .before .before .before .before .before .before .before .before .before .before .loop-test .taken) (c .before .before .before .before .before .before .before .before .before .before .before .before .before .if1 .left) (c .before .before .before .before .before .before .before .before .before .before .before .before .before .before .before .before .before .before .before .no-ranges .ensures) (c .before .before .before .before .before .before .before .before .before .before .step-alone .ensures .0) (c .before .before .before .before .before .outcome2 .given .1) (c .before .before .put-stop .ensures) (c .put-end2 .ensures))
 
 put-refused-requires : tie.Need-put-refused-requires Inv-loop μ-loop
 put-refused-requires c κs = omega (arith, c .before .before .before .before .before .before .before .before .before .before .if1 .left)
 
 returns-4 : tie.Need-returns-4 Inv-loop μ-loop
-returns-4 c = goes-last _ _ (c .before .before .before .before .before .before .before .before .before .before .before .before .before .before .before .before .before .before .before .pre .1) (refused _ _ _ _ _ _ (c .before .before .before .before .before .before .before .before .before .before .before .before .before .loop .inv) (c .before .before .before .before .before .before .before .before .before .before .before .before .loop-test .taken) (c .before .before .before .before .before .before .before .before .before .before .before .if1 .left) (c .before .before .before .before .before .before .before .before .before .before .before .before .before .before .before .before .before .no-ranges .ensures) (c .before .before .before .before .before .before .before .before .step-accepted .ensures .0) (c .before .before .before .outcome3 .given .1) (c .put-refused .ensures))
+returns-4 c = goes-last _ _ (c .before .before .before .before .before .before .before .before .before .before .before .before .before .before .before .before .before .before .before .pre .1) (refused _ _ _ _ _ _ (c .before .before .before .before .before .before .before .before .before .before .before .before .before .loop .inv) (c .before .before .before .before .before .before .before .before .before .before .before .before .loop-test .taken) (c .before .before .before .before .before .before .before .before .before .before .before .if1 .left) (c .before .before .before .before .before .before .before .before .before .before .before .before .before .before .before .before .before .no-ranges .ensures) (c .before .before .before .before .before .before .before .before .step-alone .ensures .0) (c .before .before .before .outcome3 .given .1) (c .put-refused .ensures))
 
 returns-5 : tie.Need-returns-5 Inv-loop μ-loop
 returns-5 c = goes-last _ _ (c .before .before .before .before .before .before .before .before .before .pre .1) (ended _ _ _ _ _ _ (c .before .before .before .loop .inv) (c .before .before .loop-test .left) (c .put-end3 .ensures))
