@@ -51,7 +51,7 @@ loop-less : tie.Need-loop-less Inv-loop μ-loop
 loop-less c = omega (arith, c .before .before .before .before .before .before .before .before .before .before .before .before .before .before .before .before .before .loop-test .taken)
 
 loop-again : tie.Need-loop-again Inv-loop μ-loop
-loop-again c = on _ _ _ _ _ _ (c .before .before .before .before .before .before .before .before .before .before .before .before .before .before .before .before .before .before .loop .inv) (c .before .before .before .before .before .before .before .before .before .before .before .before .before .before .before .before .before .loop-test .taken) (c .before .before .before .before .before .before .before .before .before .before .before .before .before .before .before .before .if1 .left) (c .before .before .before .before .before .before .before .before .before .before .before .before .before .before .before .before .before .before .before .before .before .before .no-ranges .ensures) (c .before .before .before .before .before .before .before .before .before .before .before .before .before .step-alone .ensures .0) (c .before .before .before .before .before .before .before .before .outcome .given .1) (c .before .before .before .before .before .before .before .before .before .before .before .before .before .step-alone .ensures .1) (c .before .before .before .before .before .before .before .before .before .before .before .before .before .step-alone .kept .1 .0) (c .before .before .put-line .ensures) (sym (c .before .is-trap .ensures) ∙ c .if2 .left)
+loop-again c = on _ _ _ _ _ _ (c .before .before .before .before .before .before .before .before .before .before .before .before .before .before .before .before .before .before .loop .inv) (c .before .before .before .before .before .before .before .before .before .before .before .before .before .before .before .before .before .loop-test .taken) (c .before .before .before .before .before .before .before .before .before .before .before .before .before .before .before .before .if1 .left) (c .before .before .before .before .before .before .before .before .before .before .before .before .before .before .before .before .before .before .before .before .before .before .no-ranges .ensures) (c .before .before .before .before .before .before .before .before .before .before .before .before .before .step-alone .ensures .0) (c .before .before .before .before .before .before .before .before .outcome .given .1) (c .before .before .before .before .before .before .before .before .before .before .before .before .before .step-alone .ensures .1) (c .before .before .before .before .before .before .before .before .before .before .before .before .before .step-alone .kept .0) (c .before .before .put-line .ensures) (sym (c .before .is-trap .ensures) ∙ c .if2 .left)
 
 put-stop-requires : tie.Need-put-stop-requires Inv-loop μ-loop
 put-stop-requires c κs = omega (arith, c .before .before .before .before .before .before .before .before .before .before .if1 .left)
