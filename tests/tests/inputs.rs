@@ -68,6 +68,16 @@ fn window_segments() {
     window_case(0xFFFF_FFC0, 64, false);
 }
 
+#[test]
+fn lengths_past_32_bits() {
+    // never touched, so no memory is taken
+    let bytes = vec![0; (1 << 32) + 64];
+    for len in [1 << 32, (1 << 32) + 64] {
+        step(&Windows::one(BASE, &bytes[..len]), &small(), PC, refused(1, 0));
+        step(&Windows::new(BASE, &bytes[..64], BASE + 64, &bytes[..len]), &small(), PC, refused(1, 0));
+    }
+}
+
 /// Ends of segments and of the windows that may be lent, and their neighbours.
 const BASES: [u32; 20] = [
     0,

@@ -58,13 +58,13 @@ fn linked(windows: &mut Windows<Vec<u8>>, areas: &[u32]) -> (u32, u32) {
 }
 
 /// The check of two lists that hold these areas.
-fn lists(mut windows: Windows<Vec<u8>>, areas: &[u32]) {
+fn lists(what: &str, mut windows: Windows<Vec<u8>>, areas: &[u32]) {
     let (fcx, pcxi) = linked(&mut windows, areas);
     let proved = || inputs::check_lists(black_box(&windows), fcx, pcxi);
     let plain = || checks::windows(&windows).and_then(|()| checks::lists(black_box(&windows), fcx, pcxi));
     assert_eq!((proved(), plain()), (Ok(()), Ok(())));
     let count = areas.len() as u32;
-    line(&format!("area of two lists, {count} in all"), 256, count, shortest(256, proved, plain));
+    line(&format!("area of two lists, {count} {what}"), 256, count, shortest(256, proved, plain));
 }
 
 /// Steps of one run.
@@ -86,16 +86,16 @@ fn steps(what: &str, worked: Worked, calls: u32, n: Option<u32>) {
         || {
             let (core, windows) = &mut proved;
             let answer = match n {
-                Some(n) => windows.run(host::run, core, black_box(&image), n),
-                None => windows.step(host::step, core, black_box(&image)),
+                Some(n) => windows.run(host::run, core, &black_box(&image)[..], n),
+                None => windows.step(host::step, core, &black_box(&image)[..]),
             };
             assert_eq!(answer & !PERMITS, expected);
         },
         || {
             let (core, windows) = &mut plain;
             let answer = match n {
-                Some(n) => windows.run(machine::run, core, black_box(&image), n),
-                None => windows.step(machine::step, core, black_box(&image)),
+                Some(n) => windows.run(machine::run, core, &black_box(&image)[..], n),
+                None => windows.step(machine::step, core, &black_box(&image)[..]),
             };
             assert_eq!(answer & !PERMITS, expected);
         },
@@ -116,12 +116,13 @@ fn main() {
         line(&format!("record of an image, {bodies} x {records}"), calls, all, shortest(calls, proved, plain));
     }
     let full = || vec![0; 65_536];
-    lists(Windows::one(BASE, full()), &areas(BASE, 1024));
-    lists(Windows::one(BASE, full()), &areas(BASE + 64 * 1016, 8));
-    // every link leads to the other window
+    let two = || Windows::new(BASE, full(), BASE + 65_536, full());
+    lists("in all", Windows::one(BASE, full()), &areas(BASE, 1024));
+    lists("in all", Windows::one(BASE, full()), &areas(BASE + 64 * 1016, 8));
+    lists("in all", two(), &areas(BASE, 2048));
+    // two areas of the first window, two of the second: each list goes from one to the other with every link
     let pairs = (0..512).flat_map(|k| [BASE + 128 * k, BASE + 65_536 + 128 * k]);
-    let crossing: Vec<u32> = pairs.flat_map(|area| [area, area + 64]).collect();
-    lists(Windows::new(BASE, full(), BASE + 65_536, full()), &crossing);
+    lists("that cross", two(), &pairs.flat_map(|area| [area, area + 64]).collect::<Vec<_>>());
     println!("\n{:<40} {:>9} {:>9} {:>6}", "millions of steps a second", "proved", "plain", "ratio");
     for (what, worked) in [
         ("run, integer loop", workloads::integer()),

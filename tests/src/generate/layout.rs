@@ -120,10 +120,10 @@ pub fn layout(draw: &mut Draw, tame: bool) -> [Extent; 2] {
 /// Makes a window break rule 1; one of length 0 only where that breaks it.
 fn break_rule_1(draw: &mut Draw, window: &mut Window<Vec<u8>>, empty_passes: bool) {
     if empty_passes && window.bytes.is_empty() {
-        window.bytes.resize(draw.pick(&[1, 63, 65]), 0);
+        window.bytes.resize(draw.pick(&[1, 62, 65]), 0);
     }
     match draw.below(6) {
-        0 => window.base += draw.within(1, 63),
+        0 => window.base = window.base.wrapping_add(draw.within(1, 63)),
         1 => window.base = draw.pick(&[0xE000_0000, 0xF000_0000, 0xFFFF_FFC0]),
         2 if !empty_passes => window.bytes.clear(),
         3 => window.bytes = vec![0; 65_600],

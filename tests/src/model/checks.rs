@@ -32,12 +32,12 @@ fn window(Window { base, bytes }: &Window<impl AsRef<[u8]>>) -> Result<(), Refus
 /// Rule 1 of the first window and of the second, then rule 13. A second window of length 0 passes both.
 pub fn windows(Windows { first, second }: &Windows<impl AsRef<[u8]>>) -> Result<(), Refusal> {
     window(first)?;
-    let (len, second_len) = (first.bytes.as_ref().len() as u32, second.bytes.as_ref().len() as u32);
+    let [len, second_len] = [first, second].map(|window| window.bytes.as_ref().len());
     if second_len == 0 {
         return Ok(());
     }
     window(second)?;
-    if first.base < second.base + second_len && second.base < first.base + len {
+    if first.base < second.base + second_len as u32 && second.base < first.base + len as u32 {
         return refuse(13, 0);
     }
     Ok(())

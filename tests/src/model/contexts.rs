@@ -31,6 +31,7 @@ impl<O: Observer> Machine<'_, O> {
     }
 
     /// The area of this step's save; where it depletes the list, the FCD entry's area is known to be there too.
+    #[inline(always)]
     pub fn find(&self) -> Result<Found, Stop> {
         let link = self.core.fcx & LINK;
         let next = self.free_area(link)?;
@@ -41,6 +42,7 @@ impl<O: Observer> Machine<'_, O> {
         Ok(Found { link, depletes })
     }
 
+    #[inline(always)]
     fn save(&mut self, half: Half, second: u32, found: Found) {
         self.observer.saves(half, &self.core);
         let core = &mut self.core;

@@ -24,11 +24,6 @@ impl<B: AsRef<[u8]>> Window<B> {
 }
 
 impl<B: AsMut<[u8]>> Window<B> {
-    #[inline(never)]
-    fn part_of_second_mut<const N: usize>(&mut self, address: u32) -> Option<&mut [u8; N]> {
-        self.part_mut(address)
-    }
-
     #[inline(always)]
     fn part_mut<const N: usize>(&mut self, address: u32) -> Option<&mut [u8; N]> {
         let bytes = self.bytes.as_mut();
@@ -77,15 +72,7 @@ impl<B: AsRef<[u8]>> Windows<B> {
     /// The bytes from an address on, if one window has them wholly.
     #[inline(always)]
     pub fn part<const N: usize>(&self, address: u32) -> Option<&[u8; N]> {
-        match self.first.part(address) {
-            Some(part) => Some(part),
-            None => self.part_of_second(address),
-        }
-    }
-
-    #[inline(never)]
-    fn part_of_second<const N: usize>(&self, address: u32) -> Option<&[u8; N]> {
-        self.second.part(address)
+        self.first.part(address).or_else(|| self.second.part(address))
     }
 
     /// Where the bytes from an address on lie, if one window has them wholly.
@@ -101,10 +88,7 @@ impl<B: AsMut<[u8]>> Windows<B> {
     /// The same to be written.
     #[inline(always)]
     pub fn part_mut<const N: usize>(&mut self, address: u32) -> Option<&mut [u8; N]> {
-        match self.first.part_mut(address) {
-            Some(part) => Some(part),
-            None => self.second.part_of_second_mut(address),
-        }
+        self.first.part_mut(address).or_else(|| self.second.part_mut(address))
     }
 
     /// The same windows, lent on.
