@@ -6,11 +6,11 @@ use mathlib.Core.Bool.{Bool, true, false, cond}
 use mathlib.Core.List.{List}
 use native.Mathlib.Omega.{arith}
 use lib.Dec.{eqb}
-use Rattle.memory.specs.Memory.{Windows, Within}
+use Rattle.memory.specs.Memory.{Windows}
 use Rattle.areas.specs.Place.{placedAt}
 use Rattle.areas.specs.declared.link.Place.{Place}
 use Rattle.areas.specs.declared.link.Place.the-variants as place
-use Rattle.areas.proofs.Places.{place-found}
+use Rattle.areas.proofs.Places.{Within, place-found}
 use Rattle.events.specs.Traps.{GRWP, ALN}
 use Rattle.events.specs.declared.trap.Trap.{Trap}
 use Rattle.protection.specs.Access.{checkOf}

@@ -3,10 +3,11 @@
 use crate::reach::Reach;
 use crate::reach::reach_data;
 use acts::How;
+use areas::data::load_byte;
+use areas::data::load_half;
+use areas::data::load_word;
+use areas::link::Address;
 use image::fetch::Instruction;
-use memory::windows::byte_in;
-use memory::windows::half_in;
-use memory::windows::word_in;
 use operations::Load;
 use protection::range::Right;
 use registers::PC;
@@ -96,13 +97,19 @@ pub fn execute_load(
                 address,
             ) {
                 Reach::Traps(t) => How::Trap(t),
-                Reach::At(at) => {
+                Reach::At(_) => {
                     put_data(
                         d,
                         a,
                         core,
                         c,
-                        signed_byte(byte_in(window, window2, at)),
+                        signed_byte(load_byte(
+                            Address(base),
+                            window,
+                            Address(base2),
+                            window2,
+                            Address(address),
+                        )),
                         i.next,
                     )
                 }
@@ -123,7 +130,20 @@ pub fn execute_load(
                 address,
             ) {
                 Reach::Traps(t) => How::Trap(t),
-                Reach::At(at) => put_data(d, a, core, c, byte_in(window, window2, at), i.next),
+                Reach::At(_) => put_data(
+                    d,
+                    a,
+                    core,
+                    c,
+                    load_byte(
+                        Address(base),
+                        window,
+                        Address(base2),
+                        window2,
+                        Address(address),
+                    ),
+                    i.next,
+                ),
             }
         }
         Load::LdH => {
@@ -141,13 +161,19 @@ pub fn execute_load(
                 address,
             ) {
                 Reach::Traps(t) => How::Trap(t),
-                Reach::At(at) => {
+                Reach::At(_) => {
                     put_data(
                         d,
                         a,
                         core,
                         c,
-                        signed_half(half_in(window, window2, at)),
+                        signed_half(load_half(
+                            Address(base),
+                            window,
+                            Address(base2),
+                            window2,
+                            Address(address),
+                        )),
                         i.next,
                     )
                 }
@@ -168,7 +194,20 @@ pub fn execute_load(
                 address,
             ) {
                 Reach::Traps(t) => How::Trap(t),
-                Reach::At(at) => put_data(d, a, core, c, half_in(window, window2, at), i.next),
+                Reach::At(_) => put_data(
+                    d,
+                    a,
+                    core,
+                    c,
+                    load_half(
+                        Address(base),
+                        window,
+                        Address(base2),
+                        window2,
+                        Address(address),
+                    ),
+                    i.next,
+                ),
             }
         }
         Load::LdW => {
@@ -186,7 +225,20 @@ pub fn execute_load(
                 address,
             ) {
                 Reach::Traps(t) => How::Trap(t),
-                Reach::At(at) => put_data(d, a, core, c, word_in(window, window2, at), i.next),
+                Reach::At(_) => put_data(
+                    d,
+                    a,
+                    core,
+                    c,
+                    load_word(
+                        Address(base),
+                        window,
+                        Address(base2),
+                        window2,
+                        Address(address),
+                    ),
+                    i.next,
+                ),
             }
         }
         Load::LdA => {
@@ -205,8 +257,14 @@ pub fn execute_load(
                 address,
             ) {
                 Reach::Traps(t) => How::Trap(t),
-                Reach::At(at) => {
-                    a[c] = word_in(window, window2, at);
+                Reach::At(_) => {
+                    a[c] = load_word(
+                        Address(base),
+                        window,
+                        Address(base2),
+                        window2,
+                        Address(address),
+                    );
                     core[PC] = i.next;
                     How::Done
                 }

@@ -3,10 +3,11 @@
 use crate::reach::Reach;
 use crate::reach::reach_data;
 use acts::How;
+use areas::data::store_byte;
+use areas::data::store_half;
+use areas::data::store_word;
+use areas::link::Address;
 use image::fetch::Instruction;
-use memory::windows::put_byte_in;
-use memory::windows::put_half_in;
-use memory::windows::put_word_in;
 use operations::Store;
 use protection::range::Right;
 use registers::PC;
@@ -54,8 +55,15 @@ pub fn execute_store(
                 address,
             ) {
                 Reach::Traps(t) => How::Trap(t),
-                Reach::At(at) => {
-                    put_byte_in(window, window2, at, d[c]);
+                Reach::At(_) => {
+                    store_byte(
+                        Address(base),
+                        window,
+                        Address(base2),
+                        window2,
+                        Address(address),
+                        d[c],
+                    );
                     core[PC] = i.next;
                     How::Done
                 }
@@ -76,8 +84,15 @@ pub fn execute_store(
                 address,
             ) {
                 Reach::Traps(t) => How::Trap(t),
-                Reach::At(at) => {
-                    put_half_in(window, window2, at, d[c]);
+                Reach::At(_) => {
+                    store_half(
+                        Address(base),
+                        window,
+                        Address(base2),
+                        window2,
+                        Address(address),
+                        d[c],
+                    );
                     core[PC] = i.next;
                     How::Done
                 }
@@ -98,8 +113,15 @@ pub fn execute_store(
                 address,
             ) {
                 Reach::Traps(t) => How::Trap(t),
-                Reach::At(at) => {
-                    put_word_in(window, window2, at, d[c]);
+                Reach::At(_) => {
+                    store_word(
+                        Address(base),
+                        window,
+                        Address(base2),
+                        window2,
+                        Address(address),
+                        d[c],
+                    );
                     core[PC] = i.next;
                     How::Done
                 }
@@ -120,8 +142,15 @@ pub fn execute_store(
                 address,
             ) {
                 Reach::Traps(t) => How::Trap(t),
-                Reach::At(at) => {
-                    put_word_in(window, window2, at, a[c]);
+                Reach::At(_) => {
+                    store_word(
+                        Address(base),
+                        window,
+                        Address(base2),
+                        window2,
+                        Address(address),
+                        a[c],
+                    );
                     core[PC] = i.next;
                     How::Done
                 }

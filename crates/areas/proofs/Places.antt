@@ -11,7 +11,7 @@ use mathlib.Core.Logic.{_⊎_, inl, inr, ⊎-elim}
 use lib.ListN.{length}
 use lib.Dec.{ltb}
 use borrow.Author.Tests.{ltb-false}
-use Rattle.memory.specs.Memory.{Windows, windows, lent, firstLength, secondLength, Within}
+use Rattle.memory.specs.Memory.{Windows, windows, lent, firstLength, secondLength}
 use Rattle.memory.proofs.Joined.{first-length, second-length}
 use Rattle.areas.specs.Link.{addressOf}
 use Rattle.areas.specs.Place.{placedIn, eitherSpot, spotAt, joinedPlace, placedAt, placed, spotOf, placeOf, LiesIn, offset}
@@ -138,7 +138,12 @@ module _ (s t : List ℕ) (b c : ℕ) (l : Link) where
       by (Second k) e g = (lies-second s t b c 64 (addressOf l) k e .0, cc)
       by Neither e g = absurd (never-at g)
 
--- it lies wholly in one window
+-- some bytes from byte `at` on, of len, lie wholly in one window: before byte `split`, or from there on
+pub record Within (split len at size : ℕ) : Type 0 where
+  pub inside : at + size ≤ len
+  pub one : at < split → at + size ≤ split
+
+-- a place that is found does
 pub place-found : (w : Windows) (len size : ℕ) (a : Address) (at : ℕ) → placedAt w len size a ≡ At at → Within (w .split) len at size
 place-found w len size a at e = by (found w len size a at e)
   where

@@ -55,7 +55,7 @@ fn place_in(base: Address, len: usize, size: u8, a: Address) -> Place
 }
 
 // Whichever window has some bytes from an address on.
-fn spot_at(
+pub fn spot_at(
     base: Address,
     window: &[u8],
     base2: Address,

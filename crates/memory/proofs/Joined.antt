@@ -1,4 +1,4 @@
--- The bytes of two windows, one list after the other: a word in one of them is that word of the whole.
+-- The bytes of two windows, one list after the other: joining loses nothing, and a word in one of them is that word of the whole.
 -- Assumes nothing.
 use mathlib.Core.Path.{_≡_, refl, sym, ap, ap₂, _∙_}
 use mathlib.Core.List.{List, [], _∷_, _++_}
@@ -7,7 +7,7 @@ use native.Mathlib.Nat.{suc-add, zero-add, add-assoc}
 use native.Mathlib.Omega.{arith}
 use lib.ListN.{length, getD, set, take, drop, length-set, length-append, List·getD-append}
 use lib.Seq.{set-append-left, getD-append-add, take-append-seam, drop-append-seam}
-use Rattle.memory.specs.Memory.{Windows, windows, Memory, Lossless, firstLength, secondLength, Within}
+use Rattle.memory.specs.Memory.{Windows, windows, Memory, Lossless, firstLength, secondLength}
 use Rattle.memory.specs.Word.{halfAt, wordAt, putByte, putHalf, putWord, putWords}
 use Rattle.memory.proofs.Words.{putWords-length}
 
@@ -33,13 +33,6 @@ module _ (s t : List ℕ) where
   pub second-length : (base second : ℕ) → secondLength (windows base (length s) second) (length (s ++ t)) ≡ length t
   second-length base second = let e = length-append s t in omega arith
 
-  -- ---- bytes wholly in one window
-  pub in-first : {at size : ℕ} → Within (length s) (length (s ++ t)) at size → at < length s → at + size ≤ length s
-  in-first w h = w .one h
-
-  pub in-second : {at size : ℕ} → Within (length s) (length (s ++ t)) at size → length s ≤ at → at - length s + size ≤ length t
-  in-second w h = omega (arith, w .inside, length-append s t)
-
   -- ---- reading
   first-byte : (i : ℕ) → i < length s → getD (s ++ t) i 0 ≡ getD s i 0
   first-byte i h = List·getD-append s t 0 i h
@@ -49,27 +42,26 @@ module _ (s t : List ℕ) where
       let e : i ≡ length s + (i - length s) = omega arith in
       ap (λ (k : ℕ). getD (s ++ t) k 0) e ∙ getD-append-add s t (i - length s) 0
 
-  second-next : (i d : ℕ) → length s ≤ i → getD (s ++ t) (i + d) 0 ≡ getD t (i - length s + d) 0
-  second-next i d h =
-      let e : i + d - length s ≡ i - length s + d = omega arith in
-      second-byte (i + d) (omega arith) ∙ ap (λ (k : ℕ). getD t k 0) e
+  -- byte d of what begins at byte k of the second
+  second-next : (k d : ℕ) → getD (s ++ t) (length s + k + d) 0 ≡ getD t (k + d) 0
+  second-next k d = ap (λ (i : ℕ). getD (s ++ t) i 0) (add-assoc (length s) k d) ∙ getD-append-add s t (k + d) 0
 
   pub first-word : (i : ℕ) → i + 4 ≤ length s → wordAt s i ≡ wordAt (s ++ t) i
   unfolding wordAt
   first-word i h =
       omega (arith, first-byte i (omega arith), first-byte (i + 1) (omega arith), first-byte (i + 2) (omega arith), first-byte (i + 3) (omega arith))
 
-  pub second-word : (i : ℕ) → length s ≤ i → wordAt t (i - length s) ≡ wordAt (s ++ t) i
+  pub second-word : (k : ℕ) → wordAt t k ≡ wordAt (s ++ t) (length s + k)
   unfolding wordAt
-  second-word i h = omega (arith, second-byte i h, second-next i 1 h, second-next i 2 h, second-next i 3 h)
+  second-word k = omega (arith, getD-append-add s t k 0, second-next k 1, second-next k 2, second-next k 3)
 
   pub first-half : (i : ℕ) → i + 2 ≤ length s → halfAt s i ≡ halfAt (s ++ t) i
   unfolding halfAt
   first-half i h = omega (arith, first-byte i (omega arith), first-byte (i + 1) (omega arith))
 
-  pub second-half : (i : ℕ) → length s ≤ i → halfAt t (i - length s) ≡ halfAt (s ++ t) i
+  pub second-half : (k : ℕ) → halfAt t k ≡ halfAt (s ++ t) (length s + k)
   unfolding halfAt
-  second-half i h = omega (arith, second-byte i h, second-next i 1 h)
+  second-half k = omega (arith, getD-append-add s t k 0, second-next k 1)
 
   pub first-one : (i : ℕ) → i + 1 ≤ length s → getD s i 0 ≡ getD (s ++ t) i 0
   first-one i h = sym (first-byte i (omega arith))
@@ -113,11 +105,11 @@ module _ (s t : List ℕ) (i w : ℕ) where
       cc
 
 module _ (s t : List ℕ) (k w : ℕ) where
-  add-byte : s ++ putByte t k w ≡ putByte (s ++ t) (length s + k) w
+  pub add-byte : s ++ putByte t k w ≡ putByte (s ++ t) (length s + k) w
   unfolding putByte
   add-byte = second-set s t k (w % 0x100)
 
-  add-half : s ++ putHalf t k w ≡ putHalf (s ++ t) (length s + k) w
+  pub add-half : s ++ putHalf t k w ≡ putHalf (s ++ t) (length s + k) w
   unfolding putHalf
   add-half =
       let t1 = set t k (w % 0x100) in
@@ -136,19 +128,6 @@ module _ (s t : List ℕ) (k w : ℕ) where
       let m2 = second-set s t2 (k + 2) (w / 0x1_0000 % 0x100) in
       let m3 = second-set s t3 (k + 3) (w / 0x100_0000) in
       cc (add-assoc (length s) k 1, add-assoc (length s) k 2, add-assoc (length s) k 3)
-
-module _ (s t : List ℕ) (i w : ℕ) (h : length s ≤ i) where
-  back : length s + (i - length s) ≡ i
-  back = omega arith
-
-  pub second-put-byte : s ++ putByte t (i - length s) w ≡ putByte (s ++ t) i w
-  second-put-byte = add-byte s t (i - length s) w ∙ ap (λ (k : ℕ). putByte (s ++ t) k w) back
-
-  pub second-put-half : s ++ putHalf t (i - length s) w ≡ putHalf (s ++ t) i w
-  second-put-half = add-half s t (i - length s) w ∙ ap (λ (k : ℕ). putHalf (s ++ t) k w) back
-
-  pub second-put-word : s ++ putWord t (i - length s) w ≡ putWord (s ++ t) i w
-  second-put-word = add-word s t (i - length s) w ∙ ap (λ (k : ℕ). putWord (s ++ t) k w) back
 
 -- ---- a run of words
 pub first-put-words : (s t : List ℕ) (i : ℕ) (ws : List ℕ) (n : ℕ) → i + 4 * n ≤ length s → putWords s i ws n ++ t ≡ putWords (s ++ t) i ws n

@@ -1,5 +1,5 @@
 -- The lent data memory: two windows.
-use Prim.Native.Nat.{ℕ, _+_, _-_, _≤_, _<_}
+use Prim.Native.Nat.{ℕ, _-_}
 use mathlib.Core.Path.{_≡_}
 use mathlib.Core.List.{List, _++_}
 use lib.ListN.{length}
@@ -35,8 +35,3 @@ secondLength w len = len - w .split
 
 abbrev pub firstLength : Windows → ℕ → ℕ
 firstLength w len = len - secondLength w len
-
--- some bytes from byte `at` on, of len, lie wholly in one window: those before `split`, or those from there on
-pub record Within (split len at size : ℕ) : Type 0 where
-  pub inside : at + size ≤ len
-  pub one : at < split → at + size ≤ split

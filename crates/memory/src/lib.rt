@@ -1,7 +1,5 @@
 // Words in lent memory, little-endian.
 
-pub mod windows;
-
 ghost use mathlib.Core.Path.{_≡_};
 ghost use Prim.Native.Nat.{_+_, _*_, _≤_, _<_};
 ghost use lib.ListN.{length, getD};

@@ -6,13 +6,13 @@ use mathlib.Core.Bool.{true}
 use borrow.Author.Needs.{needs}
 use native.Mathlib.Omega.{arith}
 use lib.ListN.{length, set, length-set}
-use Rattle.memory.specs.Memory.{Memory, lent, Within}
+use Rattle.memory.specs.Memory.{Memory, lent}
 use Rattle.areas.specs.Link.{linkOf, addressOf}
 use Rattle.areas.specs.Place.{placeOf}
 use Rattle.lists.specs.Walk.{walkOf}
 use Rattle.areas.specs.declared.link.Link.{Link}
 use Rattle.areas.specs.declared.link.Place.the-variants.{At, Outside}
-use Rattle.areas.proofs.Places.{placed-at}
+use Rattle.areas.proofs.Places.{Within, placed-at}
 use Rattle.areas.proofs.Parts.{first-word-placed}
 use Rattle.lists.proofs.Walks.{walk-whole, walk-outside, walk-again}
 use Rattle.lists.proofs.Fuel.{unmet, unmet-set, mark-in, walk-next}

@@ -2,21 +2,21 @@
 use borrow.Author.Needs.{needs}
 use mathlib.Core.Path.{sym, _∙_}
 use Rattle.accesses.specs.Store.{storeOf}
-use Rattle.accesses.proofs.Reaches.{reach-inside}
+use Rattle.accesses.proofs.Reaches.{reach-found}
 use Rattle.accesses.proofs.store.execute_store.Statement.{statement}
 use Rattle.accesses.proofs.store.execute_store.Tie as tie
 
-put-byte-in-requires : tie.Need-put-byte-in-requires
-put-byte-in-requires c κs = reach-inside _ _ _ _ _ _ _ _ _ _ (sym (c .before .before .before .before .before .before .reach-data .ensures) ∙ c .before .before .before .before .at .given .1)
+store-byte-requires : tie.Need-store-byte-requires
+store-byte-requires c κs = (_, reach-found _ _ _ _ _ _ _ _ _ _ (sym (c .before .before .before .before .before .reach-data .ensures) ∙ c .before .before .before .enum-told2 .given .1))
 
-put-half-in-requires : tie.Need-put-half-in-requires
-put-half-in-requires c κs = reach-inside _ _ _ _ _ _ _ _ _ _ (sym (c .before .before .before .before .before .before .reach-data2 .ensures) ∙ c .before .before .before .before .at2 .given .1)
+store-half-requires : tie.Need-store-half-requires
+store-half-requires c κs = (_, reach-found _ _ _ _ _ _ _ _ _ _ (sym (c .before .before .before .before .before .reach-data2 .ensures) ∙ c .before .before .before .enum-told4 .given .1))
 
-put-word-in-requires : tie.Need-put-word-in-requires
-put-word-in-requires c κs = reach-inside _ _ _ _ _ _ _ _ _ _ (sym (c .before .before .before .before .before .before .reach-data3 .ensures) ∙ c .before .before .before .before .at3 .given .1)
+store-word-requires : tie.Need-store-word-requires
+store-word-requires c κs = (_, reach-found _ _ _ _ _ _ _ _ _ _ (sym (c .before .before .before .before .before .reach-data3 .ensures) ∙ c .before .before .before .enum-told6 .given .1))
 
-put-word-in-requires-2 : tie.Need-put-word-in-requires-2
-put-word-in-requires-2 c κs = reach-inside _ _ _ _ _ _ _ _ _ _ (sym (c .before .before .before .before .before .before .reach-data4 .ensures) ∙ c .before .before .before .before .at4 .given .1)
+store-word-requires-2 : tie.Need-store-word-requires-2
+store-word-requires-2 c κs = (_, reach-found _ _ _ _ _ _ _ _ _ _ (sym (c .before .before .before .before .before .reach-data4 .ensures) ∙ c .before .before .before .enum-told8 .given .1))
 
 returns : tie.Need-returns
 unfolding storeOf
@@ -24,31 +24,31 @@ returns c = rw (c .before .before .before .before .before .before .before .enum-
 
 returns-2 : tie.Need-returns-2
 unfolding storeOf
-returns-2 c = rw (c .before .before .before .before .before .before .before .before .before .before .before .before .before .before .before .enum-told .given .1, ← c .before .before .before .before .before .before .before .before .before .before .before .before .before .before .before .before .before .plus .ensures, ← c .before .before .before .before .before .before .before .before .before .before .before .reach-data .ensures, c .before .before .before .before .before .before .before .before .before .at .given .1, ← c .before .before .before .before .put-byte-in .ensures .0, c .before .before .before .before .put-byte-in .ensures .1)
+returns-2 c = rw (c .before .before .before .before .before .before .before .before .before .before .before .before .before .before .enum-told .given .1, ← c .before .before .before .before .before .before .before .before .before .before .before .before .before .before .before .before .plus .ensures, ← c .before .before .before .before .before .before .before .before .before .before .reach-data .ensures, c .before .before .before .before .before .before .before .before .enum-told2 .given .1, ← c .before .before .before .before .store-byte .ensures .0 _ (reach-found _ _ _ _ _ _ _ _ _ _ (sym (c .before .before .before .before .before .before .before .before .before .before .reach-data .ensures) ∙ c .before .before .before .before .before .before .before .before .enum-told2 .given .1)), c .before .before .before .before .store-byte .ensures .1)
 
 returns-3 : tie.Need-returns-3
 unfolding storeOf
-returns-3 c = rw (c .before .before .before .before .before .before .before .enum-told2 .given .1, ← c .before .before .before .before .before .before .before .before .before .plus .ensures, ← c .before .before .before .reach-data2 .ensures, c .before .t2 .given .1)
+returns-3 c = rw (c .before .before .before .before .before .before .before .enum-told3 .given .1, ← c .before .before .before .before .before .before .before .before .before .plus .ensures, ← c .before .before .before .reach-data2 .ensures, c .before .t2 .given .1)
 
 returns-4 : tie.Need-returns-4
 unfolding storeOf
-returns-4 c = rw (c .before .before .before .before .before .before .before .before .before .before .before .before .before .before .before .enum-told2 .given .1, ← c .before .before .before .before .before .before .before .before .before .before .before .before .before .before .before .before .before .plus .ensures, ← c .before .before .before .before .before .before .before .before .before .before .before .reach-data2 .ensures, c .before .before .before .before .before .before .before .before .before .at2 .given .1, ← c .before .before .before .before .put-half-in .ensures .0, c .before .before .before .before .put-half-in .ensures .1)
+returns-4 c = rw (c .before .before .before .before .before .before .before .before .before .before .before .before .before .before .enum-told3 .given .1, ← c .before .before .before .before .before .before .before .before .before .before .before .before .before .before .before .before .plus .ensures, ← c .before .before .before .before .before .before .before .before .before .before .reach-data2 .ensures, c .before .before .before .before .before .before .before .before .enum-told4 .given .1, ← c .before .before .before .before .store-half .ensures .0 _ (reach-found _ _ _ _ _ _ _ _ _ _ (sym (c .before .before .before .before .before .before .before .before .before .before .reach-data2 .ensures) ∙ c .before .before .before .before .before .before .before .before .enum-told4 .given .1)), c .before .before .before .before .store-half .ensures .1)
 
 returns-5 : tie.Need-returns-5
 unfolding storeOf
-returns-5 c = rw (c .before .before .before .before .before .before .before .enum-told3 .given .1, ← c .before .before .before .before .before .before .before .before .before .plus .ensures, ← c .before .before .before .reach-data3 .ensures, c .before .t3 .given .1)
+returns-5 c = rw (c .before .before .before .before .before .before .before .enum-told5 .given .1, ← c .before .before .before .before .before .before .before .before .before .plus .ensures, ← c .before .before .before .reach-data3 .ensures, c .before .t3 .given .1)
 
 returns-6 : tie.Need-returns-6
 unfolding storeOf
-returns-6 c = rw (c .before .before .before .before .before .before .before .before .before .before .before .before .before .before .before .enum-told3 .given .1, ← c .before .before .before .before .before .before .before .before .before .before .before .before .before .before .before .before .before .plus .ensures, ← c .before .before .before .before .before .before .before .before .before .before .before .reach-data3 .ensures, c .before .before .before .before .before .before .before .before .before .at3 .given .1, ← c .before .before .before .before .put-word-in .ensures .0, c .before .before .before .before .put-word-in .ensures .1)
+returns-6 c = rw (c .before .before .before .before .before .before .before .before .before .before .before .before .before .before .enum-told5 .given .1, ← c .before .before .before .before .before .before .before .before .before .before .before .before .before .before .before .before .plus .ensures, ← c .before .before .before .before .before .before .before .before .before .before .reach-data3 .ensures, c .before .before .before .before .before .before .before .before .enum-told6 .given .1, ← c .before .before .before .before .store-word .ensures .0 _ (reach-found _ _ _ _ _ _ _ _ _ _ (sym (c .before .before .before .before .before .before .before .before .before .before .reach-data3 .ensures) ∙ c .before .before .before .before .before .before .before .before .enum-told6 .given .1)), c .before .before .before .before .store-word .ensures .1)
 
 returns-7 : tie.Need-returns-7
 unfolding storeOf
-returns-7 c = rw (c .before .before .before .before .before .before .before .enum-told4 .given .1, ← c .before .before .before .before .before .before .before .before .before .plus .ensures, ← c .before .before .before .reach-data4 .ensures, c .before .t4 .given .1)
+returns-7 c = rw (c .before .before .before .before .before .before .before .enum-told7 .given .1, ← c .before .before .before .before .before .before .before .before .before .plus .ensures, ← c .before .before .before .reach-data4 .ensures, c .before .t4 .given .1)
 
 returns-8 : tie.Need-returns-8
 unfolding storeOf
-returns-8 c = rw (c .before .before .before .before .before .before .before .before .before .before .before .before .before .before .before .enum-told4 .given .1, ← c .before .before .before .before .before .before .before .before .before .before .before .before .before .before .before .before .before .plus .ensures, ← c .before .before .before .before .before .before .before .before .before .before .before .reach-data4 .ensures, c .before .before .before .before .before .before .before .before .before .at4 .given .1, ← c .before .before .before .before .put-word-in2 .ensures .0, c .before .before .before .before .put-word-in2 .ensures .1)
+returns-8 c = rw (c .before .before .before .before .before .before .before .before .before .before .before .before .before .before .enum-told7 .given .1, ← c .before .before .before .before .before .before .before .before .before .before .before .before .before .before .before .before .plus .ensures, ← c .before .before .before .before .before .before .before .before .before .before .reach-data4 .ensures, c .before .before .before .before .before .before .before .before .enum-told8 .given .1, ← c .before .before .before .before .store-word2 .ensures .0 _ (reach-found _ _ _ _ _ _ _ _ _ _ (sym (c .before .before .before .before .before .before .before .before .before .before .reach-data4 .ensures) ∙ c .before .before .before .before .before .before .before .before .enum-told8 .given .1)), c .before .before .before .before .store-word2 .ensures .1)
 
 pub execute-store-spec : {M : Type 1} → statement M
 execute-store-spec =
@@ -63,7 +63,7 @@ execute-store-spec =
     (λ c. search needs)
     (λ c. search needs)
     (λ c. search needs)
-    put-byte-in-requires
+    store-byte-requires
     (λ c. search needs)
     (λ c. search needs)
     (λ c κs. search needs)
@@ -71,7 +71,7 @@ execute-store-spec =
     (λ c. search needs)
     (λ c. search needs)
     (λ c. search needs)
-    put-half-in-requires
+    store-half-requires
     (λ c. search needs)
     (λ c. search needs)
     (λ c κs. search needs)
@@ -79,7 +79,7 @@ execute-store-spec =
     (λ c. search needs)
     (λ c. search needs)
     (λ c. search needs)
-    put-word-in-requires
+    store-word-requires
     (λ c. search needs)
     (λ c. search needs)
     (λ c κs. search needs)
@@ -87,7 +87,7 @@ execute-store-spec =
     (λ c. search needs)
     (λ c. search needs)
     (λ c. search needs)
-    put-word-in-requires-2
+    store-word-requires-2
     (λ c. search needs)
     (λ c. search needs)
     (λ c. search needs)
