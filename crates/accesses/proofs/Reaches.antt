@@ -1,16 +1,18 @@
 -- What an access that reaches its data has passed.
 -- Assumes nothing.
 use Prim.Native.Nat.{ℕ, _%_}
-use mathlib.Core.Path.{_≡_}
+use mathlib.Core.Path.{_≡_, ap, _∙_}
 use mathlib.Core.Bool.{Bool, true, false, cond}
-use mathlib.Core.List.{List}
+use mathlib.Core.List.{List, _++_}
+use lib.ListN.{length}
 use native.Mathlib.Omega.{arith}
 use lib.Dec.{eqb}
-use Rattle.memory.specs.Memory.{Windows}
-use Rattle.areas.specs.Place.{placedAt}
+use Rattle.memory.specs.Memory.{Windows, windows}
+use Rattle.areas.specs.Place.{spotAt, placedAt, LiesIn, offset}
+use Rattle.areas.specs.declared.link.Spot.{Spot}
 use Rattle.areas.specs.declared.link.Place.{Place}
 use Rattle.areas.specs.declared.link.Place.the-variants as place
-use Rattle.areas.proofs.Places.{Within, place-found}
+use Rattle.areas.proofs.Places.{Within, place-found, spot-placed}
 use Rattle.events.specs.Traps.{GRWP, ALN}
 use Rattle.events.specs.declared.trap.Trap.{Trap}
 use Rattle.protection.specs.Access.{checkOf}
@@ -50,3 +52,15 @@ module _ (w : Windows) (len : ℕ) (core : List ℕ) (rs : List Range) (right : 
 
   pub reach-inside : reachOf w len core rs right guarded size alignment address ≡ At at → Within (w .split) len at size
   reach-inside e = place-found _ _ _ _ _ (reach-found e)
+
+-- where the data lies: the spot that the code takes is the place that is reached
+module _ (s t : List ℕ) (b c : ℕ) (core : List ℕ) (rs : List Range) (right : Right) (guarded : Bool) (size alignment address at : ℕ) where
+  pub reach-spot : (x : Spot) → x ≡ spotAt (windows b (length s) c) (length (s ++ t)) size (record { 0 = address })
+      → reachOf (windows b (length s) c) (length (s ++ t)) core rs right guarded size alignment address ≡ At at
+      → LiesIn (length s) (length t) size x × (offset (length s) x ≡ at)
+  reach-spot x e r =
+      spot-placed s t b c size (record { 0 = address }) x e at (reach-found (windows b (length s) c) (length (s ++ t)) core rs right guarded size alignment address at r)
+
+-- bytes written at an offset that is the place
+pub put-at : (put : List ℕ → ℕ → ℕ → List ℕ) (bytes : List ℕ) {i j w : ℕ} {after : List ℕ} → after ≡ put bytes i w → i ≡ j → after ≡ put bytes j w
+put-at put bytes {i} {j} {w} {after} e o = e ∙ ap (λ (k : ℕ). put bytes k w) o

@@ -7,6 +7,7 @@ use areas::data::load_byte;
 use areas::data::load_half;
 use areas::data::load_word;
 use areas::link::Address;
+use areas::link::spot_at;
 use image::fetch::Instruction;
 use operations::Load;
 use protection::range::Right;
@@ -98,18 +99,20 @@ pub fn execute_load(
             ) {
                 Reach::Traps(t) => How::Trap(t),
                 Reach::At(_) => {
+                    let at = spot_at(
+                        Address(base),
+                        window,
+                        Address(base2),
+                        window2,
+                        1,
+                        Address(address),
+                    );
                     put_data(
                         d,
                         a,
                         core,
                         c,
-                        signed_byte(load_byte(
-                            Address(base),
-                            window,
-                            Address(base2),
-                            window2,
-                            Address(address),
-                        )),
+                        signed_byte(load_byte(window, window2, at)),
                         i.next,
                     )
                 }
@@ -130,20 +133,17 @@ pub fn execute_load(
                 address,
             ) {
                 Reach::Traps(t) => How::Trap(t),
-                Reach::At(_) => put_data(
-                    d,
-                    a,
-                    core,
-                    c,
-                    load_byte(
+                Reach::At(_) => {
+                    let at = spot_at(
                         Address(base),
                         window,
                         Address(base2),
                         window2,
+                        1,
                         Address(address),
-                    ),
-                    i.next,
-                ),
+                    );
+                    put_data(d, a, core, c, load_byte(window, window2, at), i.next)
+                }
             }
         }
         Load::LdH => {
@@ -162,18 +162,20 @@ pub fn execute_load(
             ) {
                 Reach::Traps(t) => How::Trap(t),
                 Reach::At(_) => {
+                    let at = spot_at(
+                        Address(base),
+                        window,
+                        Address(base2),
+                        window2,
+                        2,
+                        Address(address),
+                    );
                     put_data(
                         d,
                         a,
                         core,
                         c,
-                        signed_half(load_half(
-                            Address(base),
-                            window,
-                            Address(base2),
-                            window2,
-                            Address(address),
-                        )),
+                        signed_half(load_half(window, window2, at)),
                         i.next,
                     )
                 }
@@ -194,20 +196,17 @@ pub fn execute_load(
                 address,
             ) {
                 Reach::Traps(t) => How::Trap(t),
-                Reach::At(_) => put_data(
-                    d,
-                    a,
-                    core,
-                    c,
-                    load_half(
+                Reach::At(_) => {
+                    let at = spot_at(
                         Address(base),
                         window,
                         Address(base2),
                         window2,
+                        2,
                         Address(address),
-                    ),
-                    i.next,
-                ),
+                    );
+                    put_data(d, a, core, c, load_half(window, window2, at), i.next)
+                }
             }
         }
         Load::LdW => {
@@ -225,20 +224,17 @@ pub fn execute_load(
                 address,
             ) {
                 Reach::Traps(t) => How::Trap(t),
-                Reach::At(_) => put_data(
-                    d,
-                    a,
-                    core,
-                    c,
-                    load_word(
+                Reach::At(_) => {
+                    let at = spot_at(
                         Address(base),
                         window,
                         Address(base2),
                         window2,
+                        4,
                         Address(address),
-                    ),
-                    i.next,
-                ),
+                    );
+                    put_data(d, a, core, c, load_word(window, window2, at), i.next)
+                }
             }
         }
         Load::LdA => {
@@ -258,13 +254,15 @@ pub fn execute_load(
             ) {
                 Reach::Traps(t) => How::Trap(t),
                 Reach::At(_) => {
-                    a[c] = load_word(
+                    let at = spot_at(
                         Address(base),
                         window,
                         Address(base2),
                         window2,
+                        4,
                         Address(address),
                     );
+                    a[c] = load_word(window, window2, at);
                     core[PC] = i.next;
                     How::Done
                 }

@@ -7,6 +7,7 @@ use areas::data::store_byte;
 use areas::data::store_half;
 use areas::data::store_word;
 use areas::link::Address;
+use areas::link::spot_at;
 use image::fetch::Instruction;
 use operations::Store;
 use protection::range::Right;
@@ -56,14 +57,15 @@ pub fn execute_store(
             ) {
                 Reach::Traps(t) => How::Trap(t),
                 Reach::At(_) => {
-                    store_byte(
+                    let at = spot_at(
                         Address(base),
                         window,
                         Address(base2),
                         window2,
+                        1,
                         Address(address),
-                        d[c],
                     );
+                    store_byte(window, window2, at, d[c]);
                     core[PC] = i.next;
                     How::Done
                 }
@@ -85,14 +87,15 @@ pub fn execute_store(
             ) {
                 Reach::Traps(t) => How::Trap(t),
                 Reach::At(_) => {
-                    store_half(
+                    let at = spot_at(
                         Address(base),
                         window,
                         Address(base2),
                         window2,
+                        2,
                         Address(address),
-                        d[c],
                     );
+                    store_half(window, window2, at, d[c]);
                     core[PC] = i.next;
                     How::Done
                 }
@@ -114,14 +117,15 @@ pub fn execute_store(
             ) {
                 Reach::Traps(t) => How::Trap(t),
                 Reach::At(_) => {
-                    store_word(
+                    let at = spot_at(
                         Address(base),
                         window,
                         Address(base2),
                         window2,
+                        4,
                         Address(address),
-                        d[c],
                     );
+                    store_word(window, window2, at, d[c]);
                     core[PC] = i.next;
                     How::Done
                 }
@@ -143,14 +147,15 @@ pub fn execute_store(
             ) {
                 Reach::Traps(t) => How::Trap(t),
                 Reach::At(_) => {
-                    store_word(
+                    let at = spot_at(
                         Address(base),
                         window,
                         Address(base2),
                         window2,
+                        4,
                         Address(address),
-                        a[c],
                     );
+                    store_word(window, window2, at, a[c]);
                     core[PC] = i.next;
                     How::Done
                 }

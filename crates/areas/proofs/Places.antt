@@ -126,17 +126,20 @@ module _ (s t : List ℕ) (base base2 size : ℕ) (a : Address) where
           (omega arith, omega arith)
       by Outside Outside f g = absurd (second-some g)
 
--- ---- the spot of an area
-module _ (s t : List ℕ) (b c : ℕ) (l : Link) where
-  -- an area that has a place has a spot, and that is the place
-  pub spot-at-place : (x : Spot) → x ≡ spotOf (lent b s c t) l → (at : ℕ) → placeOf (lent b s c t) l ≡ At at
-      → LiesIn (length s) (length t) 64 x × (offset (length s) x ≡ at)
-  spot-at-place x e at p = by x e (place-of-spot s t b c 64 (addressOf l) x e ∙ p)
+  -- what has a place has a spot, and that is the place
+  pub spot-placed : (x : Spot) → x ≡ spotAt (windows base (length s) base2) (length (s ++ t)) size a → (at : ℕ)
+      → placedAt (windows base (length s) base2) (length (s ++ t)) size a ≡ At at → LiesIn (length s) (length t) size x × (offset (length s) x ≡ at)
+  spot-placed x e at p = by x e (place-of-spot x e ∙ p)
     where
-      by : (x : Spot) → x ≡ spotOf (lent b s c t) l → joinedPlace (length s) x ≡ At at → LiesIn (length s) (length t) 64 x × (offset (length s) x ≡ at)
-      by (First k) e g = (lies-first s t b c 64 (addressOf l) k e, cc)
-      by (Second k) e g = (lies-second s t b c 64 (addressOf l) k e .0, cc)
+      by : (x : Spot) → x ≡ spotAt (windows base (length s) base2) (length (s ++ t)) size a → joinedPlace (length s) x ≡ At at
+          → LiesIn (length s) (length t) size x × (offset (length s) x ≡ at)
+      by (First k) e g = (lies-first k e, cc)
+      by (Second k) e g = (lies-second k e .0, cc)
       by Neither e g = absurd (never-at g)
+
+pub spot-at-place : (s t : List ℕ) (b c : ℕ) (l : Link) (x : Spot) → x ≡ spotOf (lent b s c t) l → (at : ℕ) → placeOf (lent b s c t) l ≡ At at
+    → LiesIn (length s) (length t) 64 x × (offset (length s) x ≡ at)
+spot-at-place s t b c l x e at p = spot-placed s t b c 64 (addressOf l) x e at p
 
 -- some bytes from byte `at` on, of len, lie wholly in one window: before byte `split`, or from there on
 pub record Within (split len at size : ℕ) : Type 0 where

@@ -37,14 +37,6 @@ joinedPlace split Neither = Outside
 unfoldable pub placedAt : Windows → ℕ → ℕ → Address → Place
 placedAt w len size a = joinedPlace (firstLength w len) (spotAt w len size a)
 
--- `size` bytes of data from an address on have that place
-abbrev pub PlacedAt : Memory → ℕ → Address → ℕ → Type 0
-PlacedAt m size a at = placedAt (m .windows) (length (m .bytes)) size a ≡ At at
-
--- one of the windows has them
-abbrev pub Has : Memory → ℕ → Address → Type 0
-Has m size a = (at : ℕ) × PlacedAt m size a at
-
 -- the 64 bytes of an area
 abbrev pub placed : Windows → ℕ → Address → Place
 placed w len a = placedAt w len 64 a

@@ -1,22 +1,24 @@
 -- `accesses::store::execute_store` meets its contract. Assumes nothing.
 use borrow.Author.Needs.{needs}
 use mathlib.Core.Path.{sym, _∙_}
+use mathlib.Core.List.{_++_}
+use Rattle.memory.specs.Word.{putByte, putHalf, putWord}
 use Rattle.accesses.specs.Store.{storeOf}
-use Rattle.accesses.proofs.Reaches.{reach-found}
+use Rattle.accesses.proofs.Reaches.{reach-spot, put-at}
 use Rattle.accesses.proofs.store.execute_store.Statement.{statement}
 use Rattle.accesses.proofs.store.execute_store.Tie as tie
 
 store-byte-requires : tie.Need-store-byte-requires
-store-byte-requires c κs = (_, reach-found _ _ _ _ _ _ _ _ _ _ (sym (c .before .before .before .before .before .reach-data .ensures) ∙ c .before .before .before .enum-told2 .given .1))
+store-byte-requires c κs = reach-spot (c .before .before .before .before .before .before .before .before .before .before .before .before .before .before .before .before .before .before .args .window .now) (c .before .before .before .before .before .before .before .before .before .before .before .before .before .before .before .before .before .before .args .window2 .now) _ _ _ _ _ _ _ _ _ _ _ (c .before .before .before .spot-at .ensures) (sym (c .before .before .before .before .before .before .before .before .reach-data .ensures) ∙ c .before .before .before .before .before .before .enum-told2 .given .1) .0
 
 store-half-requires : tie.Need-store-half-requires
-store-half-requires c κs = (_, reach-found _ _ _ _ _ _ _ _ _ _ (sym (c .before .before .before .before .before .reach-data2 .ensures) ∙ c .before .before .before .enum-told4 .given .1))
+store-half-requires c κs = reach-spot (c .before .before .before .before .before .before .before .before .before .before .before .before .before .before .before .before .before .before .args .window .now) (c .before .before .before .before .before .before .before .before .before .before .before .before .before .before .before .before .before .before .args .window2 .now) _ _ _ _ _ _ _ _ _ _ _ (c .before .before .before .spot-at2 .ensures) (sym (c .before .before .before .before .before .before .before .before .reach-data2 .ensures) ∙ c .before .before .before .before .before .before .enum-told4 .given .1) .0
 
 store-word-requires : tie.Need-store-word-requires
-store-word-requires c κs = (_, reach-found _ _ _ _ _ _ _ _ _ _ (sym (c .before .before .before .before .before .reach-data3 .ensures) ∙ c .before .before .before .enum-told6 .given .1))
+store-word-requires c κs = reach-spot (c .before .before .before .before .before .before .before .before .before .before .before .before .before .before .before .before .before .before .args .window .now) (c .before .before .before .before .before .before .before .before .before .before .before .before .before .before .before .before .before .before .args .window2 .now) _ _ _ _ _ _ _ _ _ _ _ (c .before .before .before .spot-at3 .ensures) (sym (c .before .before .before .before .before .before .before .before .reach-data3 .ensures) ∙ c .before .before .before .before .before .before .enum-told6 .given .1) .0
 
 store-word-requires-2 : tie.Need-store-word-requires-2
-store-word-requires-2 c κs = (_, reach-found _ _ _ _ _ _ _ _ _ _ (sym (c .before .before .before .before .before .reach-data4 .ensures) ∙ c .before .before .before .enum-told8 .given .1))
+store-word-requires-2 c κs = reach-spot (c .before .before .before .before .before .before .before .before .before .before .before .before .before .before .before .before .before .before .args .window .now) (c .before .before .before .before .before .before .before .before .before .before .before .before .before .before .before .before .before .before .args .window2 .now) _ _ _ _ _ _ _ _ _ _ _ (c .before .before .before .spot-at4 .ensures) (sym (c .before .before .before .before .before .before .before .before .reach-data4 .ensures) ∙ c .before .before .before .before .before .before .enum-told8 .given .1) .0
 
 returns : tie.Need-returns
 unfolding storeOf
@@ -24,7 +26,9 @@ returns c = rw (c .before .before .before .before .before .before .before .enum-
 
 returns-2 : tie.Need-returns-2
 unfolding storeOf
-returns-2 c = rw (c .before .before .before .before .before .before .before .before .before .before .before .before .before .before .enum-told .given .1, ← c .before .before .before .before .before .before .before .before .before .before .before .before .before .before .before .before .plus .ensures, ← c .before .before .before .before .before .before .before .before .before .before .reach-data .ensures, c .before .before .before .before .before .before .before .before .enum-told2 .given .1, ← c .before .before .before .before .store-byte .ensures .0 _ (reach-found _ _ _ _ _ _ _ _ _ _ (sym (c .before .before .before .before .before .before .before .before .before .before .reach-data .ensures) ∙ c .before .before .before .before .before .before .before .before .enum-told2 .given .1)), c .before .before .before .before .store-byte .ensures .1)
+returns-2 c =
+    let u = put-at putByte (c .before .before .before .before .before .before .before .before .before .before .before .before .before .before .before .before .before .before .before .before .before .before .before .args .window .now ++ c .before .before .before .before .before .before .before .before .before .before .before .before .before .before .before .before .before .before .before .before .before .before .before .args .window2 .now) (c .before .before .before .before .store-byte .ensures .0) (reach-spot (c .before .before .before .before .before .before .before .before .before .before .before .before .before .before .before .before .before .before .before .before .before .before .before .args .window .now) (c .before .before .before .before .before .before .before .before .before .before .before .before .before .before .before .before .before .before .before .before .before .before .before .args .window2 .now) _ _ _ _ _ _ _ _ _ _ _ (c .before .before .before .before .before .before .before .before .spot-at .ensures) (sym (c .before .before .before .before .before .before .before .before .before .before .before .before .before .reach-data .ensures) ∙ c .before .before .before .before .before .before .before .before .before .before .before .enum-told2 .given .1) .1) in
+    rw (c .before .before .before .before .before .before .before .before .before .before .before .before .before .before .before .before .before .enum-told .given .1, ← c .before .before .before .before .before .before .before .before .before .before .before .before .before .before .before .before .before .before .before .plus .ensures, ← c .before .before .before .before .before .before .before .before .before .before .before .before .before .reach-data .ensures, c .before .before .before .before .before .before .before .before .before .before .before .enum-told2 .given .1, ← u, c .before .before .before .before .store-byte .ensures .1)
 
 returns-3 : tie.Need-returns-3
 unfolding storeOf
@@ -32,7 +36,9 @@ returns-3 c = rw (c .before .before .before .before .before .before .before .enu
 
 returns-4 : tie.Need-returns-4
 unfolding storeOf
-returns-4 c = rw (c .before .before .before .before .before .before .before .before .before .before .before .before .before .before .enum-told3 .given .1, ← c .before .before .before .before .before .before .before .before .before .before .before .before .before .before .before .before .plus .ensures, ← c .before .before .before .before .before .before .before .before .before .before .reach-data2 .ensures, c .before .before .before .before .before .before .before .before .enum-told4 .given .1, ← c .before .before .before .before .store-half .ensures .0 _ (reach-found _ _ _ _ _ _ _ _ _ _ (sym (c .before .before .before .before .before .before .before .before .before .before .reach-data2 .ensures) ∙ c .before .before .before .before .before .before .before .before .enum-told4 .given .1)), c .before .before .before .before .store-half .ensures .1)
+returns-4 c =
+    let u = put-at putHalf (c .before .before .before .before .before .before .before .before .before .before .before .before .before .before .before .before .before .before .before .before .before .before .before .args .window .now ++ c .before .before .before .before .before .before .before .before .before .before .before .before .before .before .before .before .before .before .before .before .before .before .before .args .window2 .now) (c .before .before .before .before .store-half .ensures .0) (reach-spot (c .before .before .before .before .before .before .before .before .before .before .before .before .before .before .before .before .before .before .before .before .before .before .before .args .window .now) (c .before .before .before .before .before .before .before .before .before .before .before .before .before .before .before .before .before .before .before .before .before .before .before .args .window2 .now) _ _ _ _ _ _ _ _ _ _ _ (c .before .before .before .before .before .before .before .before .spot-at2 .ensures) (sym (c .before .before .before .before .before .before .before .before .before .before .before .before .before .reach-data2 .ensures) ∙ c .before .before .before .before .before .before .before .before .before .before .before .enum-told4 .given .1) .1) in
+    rw (c .before .before .before .before .before .before .before .before .before .before .before .before .before .before .before .before .before .enum-told3 .given .1, ← c .before .before .before .before .before .before .before .before .before .before .before .before .before .before .before .before .before .before .before .plus .ensures, ← c .before .before .before .before .before .before .before .before .before .before .before .before .before .reach-data2 .ensures, c .before .before .before .before .before .before .before .before .before .before .before .enum-told4 .given .1, ← u, c .before .before .before .before .store-half .ensures .1)
 
 returns-5 : tie.Need-returns-5
 unfolding storeOf
@@ -40,7 +46,9 @@ returns-5 c = rw (c .before .before .before .before .before .before .before .enu
 
 returns-6 : tie.Need-returns-6
 unfolding storeOf
-returns-6 c = rw (c .before .before .before .before .before .before .before .before .before .before .before .before .before .before .enum-told5 .given .1, ← c .before .before .before .before .before .before .before .before .before .before .before .before .before .before .before .before .plus .ensures, ← c .before .before .before .before .before .before .before .before .before .before .reach-data3 .ensures, c .before .before .before .before .before .before .before .before .enum-told6 .given .1, ← c .before .before .before .before .store-word .ensures .0 _ (reach-found _ _ _ _ _ _ _ _ _ _ (sym (c .before .before .before .before .before .before .before .before .before .before .reach-data3 .ensures) ∙ c .before .before .before .before .before .before .before .before .enum-told6 .given .1)), c .before .before .before .before .store-word .ensures .1)
+returns-6 c =
+    let u = put-at putWord (c .before .before .before .before .before .before .before .before .before .before .before .before .before .before .before .before .before .before .before .before .before .before .before .args .window .now ++ c .before .before .before .before .before .before .before .before .before .before .before .before .before .before .before .before .before .before .before .before .before .before .before .args .window2 .now) (c .before .before .before .before .store-word .ensures .0) (reach-spot (c .before .before .before .before .before .before .before .before .before .before .before .before .before .before .before .before .before .before .before .before .before .before .before .args .window .now) (c .before .before .before .before .before .before .before .before .before .before .before .before .before .before .before .before .before .before .before .before .before .before .before .args .window2 .now) _ _ _ _ _ _ _ _ _ _ _ (c .before .before .before .before .before .before .before .before .spot-at3 .ensures) (sym (c .before .before .before .before .before .before .before .before .before .before .before .before .before .reach-data3 .ensures) ∙ c .before .before .before .before .before .before .before .before .before .before .before .enum-told6 .given .1) .1) in
+    rw (c .before .before .before .before .before .before .before .before .before .before .before .before .before .before .before .before .before .enum-told5 .given .1, ← c .before .before .before .before .before .before .before .before .before .before .before .before .before .before .before .before .before .before .before .plus .ensures, ← c .before .before .before .before .before .before .before .before .before .before .before .before .before .reach-data3 .ensures, c .before .before .before .before .before .before .before .before .before .before .before .enum-told6 .given .1, ← u, c .before .before .before .before .store-word .ensures .1)
 
 returns-7 : tie.Need-returns-7
 unfolding storeOf
@@ -48,7 +56,9 @@ returns-7 c = rw (c .before .before .before .before .before .before .before .enu
 
 returns-8 : tie.Need-returns-8
 unfolding storeOf
-returns-8 c = rw (c .before .before .before .before .before .before .before .before .before .before .before .before .before .before .enum-told7 .given .1, ← c .before .before .before .before .before .before .before .before .before .before .before .before .before .before .before .before .plus .ensures, ← c .before .before .before .before .before .before .before .before .before .before .reach-data4 .ensures, c .before .before .before .before .before .before .before .before .enum-told8 .given .1, ← c .before .before .before .before .store-word2 .ensures .0 _ (reach-found _ _ _ _ _ _ _ _ _ _ (sym (c .before .before .before .before .before .before .before .before .before .before .reach-data4 .ensures) ∙ c .before .before .before .before .before .before .before .before .enum-told8 .given .1)), c .before .before .before .before .store-word2 .ensures .1)
+returns-8 c =
+    let u = put-at putWord (c .before .before .before .before .before .before .before .before .before .before .before .before .before .before .before .before .before .before .before .before .before .before .before .args .window .now ++ c .before .before .before .before .before .before .before .before .before .before .before .before .before .before .before .before .before .before .before .before .before .before .before .args .window2 .now) (c .before .before .before .before .store-word2 .ensures .0) (reach-spot (c .before .before .before .before .before .before .before .before .before .before .before .before .before .before .before .before .before .before .before .before .before .before .before .args .window .now) (c .before .before .before .before .before .before .before .before .before .before .before .before .before .before .before .before .before .before .before .before .before .before .before .args .window2 .now) _ _ _ _ _ _ _ _ _ _ _ (c .before .before .before .before .before .before .before .before .spot-at4 .ensures) (sym (c .before .before .before .before .before .before .before .before .before .before .before .before .before .reach-data4 .ensures) ∙ c .before .before .before .before .before .before .before .before .before .before .before .enum-told8 .given .1) .1) in
+    rw (c .before .before .before .before .before .before .before .before .before .before .before .before .before .before .before .before .before .enum-told7 .given .1, ← c .before .before .before .before .before .before .before .before .before .before .before .before .before .before .before .before .before .before .before .plus .ensures, ← c .before .before .before .before .before .before .before .before .before .before .before .before .before .reach-data4 .ensures, c .before .before .before .before .before .before .before .before .before .before .before .enum-told8 .given .1, ← u, c .before .before .before .before .store-word2 .ensures .1)
 
 pub execute-store-spec : {M : Type 1} → statement M
 execute-store-spec =
@@ -61,6 +71,7 @@ execute-store-spec =
     (λ c κs. search needs)
     (λ c. search needs)
     (λ c. search needs)
+    (λ c κs. search needs)
     (λ c. search needs)
     (λ c. search needs)
     store-byte-requires
@@ -69,6 +80,7 @@ execute-store-spec =
     (λ c κs. search needs)
     (λ c. search needs)
     (λ c. search needs)
+    (λ c κs. search needs)
     (λ c. search needs)
     (λ c. search needs)
     store-half-requires
@@ -77,6 +89,7 @@ execute-store-spec =
     (λ c κs. search needs)
     (λ c. search needs)
     (λ c. search needs)
+    (λ c κs. search needs)
     (λ c. search needs)
     (λ c. search needs)
     store-word-requires
@@ -85,6 +98,7 @@ execute-store-spec =
     (λ c κs. search needs)
     (λ c. search needs)
     (λ c. search needs)
+    (λ c κs. search needs)
     (λ c. search needs)
     (λ c. search needs)
     store-word-requires-2
