@@ -2,7 +2,7 @@
 
 use crate::model::checks;
 use crate::model::core::{NAMES, RECORD};
-use crate::model::image::{record_at, word};
+use crate::model::image::{record_at, word, SHORT};
 use crate::model::operations;
 use crate::model::windows::{Window, Windows};
 use std::fmt::Write;
@@ -80,8 +80,9 @@ pub fn place(core: &[u8], image: &[u8]) -> String {
     let record = if checks::image(image).is_ok() { record_at(image, at("PC")) } else { None };
     match record {
         Some(r) => {
-            let operation = operations::NAMES[r.op as usize];
-            write!(text, "\n  at {operation} c {} a {} b {} immediate {:08X}", r.c, r.a, r.b, r.imm).unwrap();
+            let operation = operations::NAMES[(r.op & !SHORT) as usize];
+            let fields = format!("c {} a {} b {} immediate {:08X}", r.c, r.a, r.b, r.imm);
+            write!(text, "\n  at {operation}, {} addresses, {fields}", r.length()).unwrap();
         }
         None => text.push_str("\n  at no record"),
     }

@@ -3,7 +3,7 @@
 use crate::host;
 use crate::model::core::Core;
 use crate::model::event::answer;
-use crate::model::image::{build, Body, Record};
+use crate::model::image::{build, record_at, Body, Record};
 use crate::model::machine;
 use crate::model::operations::Operation;
 use crate::model::windows::{link_of, Windows};
@@ -163,10 +163,15 @@ impl Worked {
         words
     }
 
+    /// The address after the instruction at PC.
+    pub fn next(&self) -> u32 {
+        self.core.pc + record_at(&self.image, self.core.pc).expect("a record at PC").length()
+    }
+
     /// What a lower save of the instruction at PC finds.
     pub fn lower(&self) -> [u32; 16] {
         let mut words = [self.core.pcxi; 16];
-        words[1] = self.core.pc + 4;
+        words[1] = self.next();
         words[2..8].copy_from_slice(&self.core.a[2..8]);
         words[8..].copy_from_slice(&self.core.d[..8]);
         words

@@ -1,6 +1,6 @@
 //! Rules 1 to 6 and 13.
 
-use super::image::word;
+use super::image::{length, word, SHORT};
 use super::windows::{address_of, Place, Window, Windows};
 
 /// A refusal by its number and place.
@@ -43,6 +43,24 @@ pub fn windows(Windows { first, second }: &Windows<impl AsRef<[u8]>>) -> Result<
     Ok(())
 }
 
+/// The code range of an entry.
+#[derive(Clone, Copy)]
+struct Code<'a> {
+    load: u64,
+    body: &'a [u8],
+}
+
+impl Code<'_> {
+    fn end(self) -> u64 {
+        self.load + self.body.chunks_exact(8).map(|record| length(record[0]) as u64).sum::<u64>()
+    }
+
+    /// Whether it goes past an address. The body is read only where long records would.
+    fn passes(self, address: u64) -> bool {
+        self.load + self.body.len() as u64 / 2 > address && self.end() > address
+    }
+}
+
 /// Rule 2: the table of contents.
 fn table(image: &[u8]) -> Result<(), Refusal> {
     if image.len() < 4 {
@@ -52,45 +70,69 @@ fn table(image: &[u8]) -> Result<(), Refusal> {
     if !(1..=16).contains(&n) || image.len() < 4 + 12 * n {
         return refuse(2, 0);
     }
-    let mut body = 4 + 12 * n as u64;
-    let mut free_from = 0u64;
+    let mut bodies = &image[4 + 12 * n..];
+    let mut before = Code { load: 0, body: &[] };
     for (i, entry) in image[4..4 + 12 * n].chunks_exact(12).enumerate() {
-        let [load, records, offset] = [0, 4, 8].map(|at| word(entry, at) as u64);
-        let code_end = load + 4 * records;
+        let [load, records, offset] = [0, 4, 8].map(|at| word(entry, at) as usize);
         let right = load % 4 == 0
             && (1..=65536).contains(&records)
-            && offset == body
-            && load >= free_from
-            && code_end <= 0xE000_0000
-            && offset + 8 * records <= image.len() as u64;
+            && offset == image.len() - bodies.len()
+            && 8 * records <= bodies.len();
         if !right {
             return refuse(2, i as u32 + 1);
         }
-        body += 8 * records;
-        free_from = code_end;
+        let (body, rest) = bodies.split_at(8 * records);
+        let code = Code { load: load as u64, body };
+        if before.passes(code.load) || code.passes(0xE000_0000) {
+            return refuse(2, i as u32 + 1);
+        }
+        (bodies, before) = (rest, code);
     }
-    if body != image.len() as u64 {
+    if !bodies.is_empty() {
         return refuse(2, n as u32);
     }
     Ok(())
 }
 
-/// Rule 3: the records, where rule 2 holds.
-fn records(image: &[u8]) -> Result<(), Refusal> {
-    let start = 4 + 12 * word(image, 0) as usize;
-    for (k, r) in image[start..].chunks_exact(8).enumerate() {
-        let most_b = if (57..=62).contains(&r[0]) { 15 } else { 16 };
-        if r[0] > 78 || r[1] > 15 || r[2] > 15 || r[3] > most_b {
-            return refuse(3, k as u32);
-        }
+/// For each operation byte the least b that rule 3 refuses: 0 where it refuses the byte.
+const LEAST_REFUSED: [u8; 256] = {
+    let mut least = [0; 256];
+    let mut byte = 0;
+    while byte < 256 {
+        least[byte] = match byte as u8 & !SHORT {
+            57..=62 => 16,
+            0..=78 => 17,
+            _ => 0,
+        };
+        byte += 1;
     }
-    Ok(())
+    least
+};
+
+/// Of the records of an image: all long, or not.
+#[derive(Debug, Clone, Copy, PartialEq, Eq)]
+pub enum Lengths {
+    Long,
+    Mixed,
+}
+
+/// Rule 3: the records, where rule 2 holds.
+fn records(image: &[u8]) -> Result<Lengths, Refusal> {
+    let start = 4 + 12 * word(image, 0) as usize;
+    let mut bytes = 0;
+    for (k, [byte, c, a, b, ..]) in image[start..].as_chunks::<8>().0.iter().enumerate() {
+        if *c > 15 || *a > 15 || *b >= LEAST_REFUSED[*byte as usize] {
+            return Err(Refusal { number: 3, place: k as u32 });
+        }
+        bytes |= byte;
+    }
+    Ok(if bytes & SHORT == 0 { Lengths::Long } else { Lengths::Mixed })
 }
 
 /// Rules 2 and 3.
 pub fn image(image: &[u8]) -> Result<(), Refusal> {
     table(image)?;
-    records(image)
+    records(image).map(|_| ())
 }
 
 /// Rules 5 and 6: the free list, then the used one, where rules 1 and 13 hold.
@@ -115,13 +157,19 @@ pub fn lists(windows: &Windows<impl AsRef<[u8]>>, fcx: u32, pcxi: u32) -> Result
 }
 
 /// Rules 1, 13 and 2 to 4.
-pub fn step(lent: &Windows<impl AsRef<[u8]>>, bytes: &[u8], pc: u32) -> Result<(), Refusal> {
+pub fn accept(lent: &Windows<impl AsRef<[u8]>>, bytes: &[u8], pc: u32) -> Result<Lengths, Refusal> {
     windows(lent)?;
-    image(bytes)?;
+    table(bytes)?;
+    let lengths = records(bytes)?;
     if pc % 2 == 1 {
-        return refuse(4, 0);
+        return Err(Refusal { number: 4, place: 0 });
     }
-    Ok(())
+    Ok(lengths)
+}
+
+/// The same without the lengths.
+pub fn step(lent: &Windows<impl AsRef<[u8]>>, bytes: &[u8], pc: u32) -> Result<(), Refusal> {
+    accept(lent, bytes, pc).map(|_| ())
 }
 
 /// All seven rules.

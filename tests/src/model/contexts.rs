@@ -1,5 +1,6 @@
 //! Saves, returns, and the entries of interrupts and traps.
 
+use super::code::Code;
 use super::depth;
 use super::event::{Event, Stop, Trap, Undone, CSU, CTYP, FCD};
 use super::fields::{icr, pcxi, psw, request, LINK};
@@ -15,7 +16,7 @@ pub struct Found {
     depletes: bool,
 }
 
-impl<O: Observer> Machine<'_, O> {
+impl<O: Observer, C: Code> Machine<'_, O, C> {
     /// The first word of the area that a link names.
     #[inline(always)]
     fn first_word(&self, link: u32) -> Result<u32, Stop> {
@@ -64,8 +65,8 @@ impl<O: Observer> Machine<'_, O> {
         self.save(Half::Upper, self.core.psw, found);
     }
 
-    pub fn save_lower(&mut self, found: Found) {
-        self.save(Half::Lower, self.core.pc.wrapping_add(4), found);
+    pub fn save_lower(&mut self, next: u32, found: Found) {
+        self.save(Half::Lower, next, found);
     }
 
     fn enter(&mut self, a11: u32, vector: u32, found: Found) {
@@ -114,12 +115,12 @@ impl<O: Observer> Machine<'_, O> {
         Ok(self.after_save(event, found))
     }
 
-    pub fn call(&mut self, target: u32) -> Result<Event, Undone> {
+    pub fn call(&mut self, target: u32, next: u32) -> Result<Event, Undone> {
         let counted = depth::up(self.core.psw)?;
         let found = self.find()?;
         self.save_upper(found);
         self.core.psw = counted;
-        self.core.a[11] = self.core.pc.wrapping_add(4);
+        self.core.a[11] = next;
         self.core.pc = target & !1;
         Ok(self.after_save(Event::Instruction, found))
     }
@@ -164,9 +165,9 @@ impl<O: Observer> Machine<'_, O> {
         Ok(Event::Instruction)
     }
 
-    pub fn return_lower(&mut self) -> Result<Event, Undone> {
+    pub fn return_lower(&mut self, next: u32) -> Result<Event, Undone> {
         self.load(Half::Lower)?;
-        self.core.pc = self.core.pc.wrapping_add(4);
+        self.core.pc = next;
         self.observer.returned(Half::Lower, &self.core);
         Ok(Event::Instruction)
     }

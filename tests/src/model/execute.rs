@@ -1,6 +1,6 @@
 //! One instruction.
 
-use super::code::Instruction;
+use super::code::{Code, Instruction};
 use super::depth;
 use super::event::{Event, Trap, Undone, OVF, PRIV, SOVF, SYS_CLASS};
 use super::fields::psw::{AV, SAV, SV, V};
@@ -21,7 +21,7 @@ macro_rules! dispatch {
     };
 }
 
-impl<O: Observer> Machine<'_, O> {
+impl<O: Observer, C: Code> Machine<'_, O, C> {
     #[inline]
     fn second(&self, i: Instruction) -> u32 {
         if i.b == 16 {
@@ -57,7 +57,7 @@ impl<O: Observer> Machine<'_, O> {
     #[inline(always)]
     pub fn execute(&mut self, i: Instruction) -> Result<Event, Undone> {
         let pc = self.core.pc;
-        let next = pc.wrapping_add(4);
+        let next = pc.wrapping_add(i.length);
         let relative = pc.wrapping_add(i.immediate) & !1;
         let (x, y) = (self.core.d[i.a], self.second(i));
         let psw = self.core.psw;
@@ -103,8 +103,8 @@ impl<O: Observer> Machine<'_, O> {
                     target = relative;
                 }
             }
-            Call => return self.call(relative),
-            Calli => return self.call(self.core.a[i.a]),
+            Call => return self.call(relative, next),
+            Calli => return self.call(self.core.a[i.a], next),
             Ret => {
                 depth::down(self.core.psw)?;
                 self.returnable(Half::Upper)?;
@@ -121,18 +121,18 @@ impl<O: Observer> Machine<'_, O> {
             }
             Svlcx => {
                 let found = self.find()?;
-                self.save_lower(found);
+                self.save_lower(next, found);
                 self.core.pc = next;
                 return Ok(self.after_save(Event::Instruction, found));
             }
             Rslcx => {
                 self.returnable(Half::Lower)?;
-                return self.return_lower();
+                return self.return_lower(next);
             }
             Bisr => {
                 self.require_io(2)?;
                 let found = self.find()?;
-                self.save_lower(found);
+                self.save_lower(next, found);
                 self.core.icr = self.core.icr & !icr::CCPN | icr::IE | i.immediate & icr::CCPN;
                 self.core.pc = next;
                 return Ok(self.after_save(Event::Instruction, found));

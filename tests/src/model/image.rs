@@ -10,8 +10,26 @@ pub struct Record {
     pub imm: u32,
 }
 
+/// What is added to an operation's byte for the short form.
+pub const SHORT: u8 = 128;
+
+/// How many addresses a record covers: bit 7 of its byte alone tells it.
+#[inline]
+pub fn length(op: u8) -> u32 {
+    4 >> (op >> 7)
+}
+
 impl Record {
     pub const NOP: Record = Record { op: 0, c: 0, a: 0, b: 0, imm: 0 };
+
+    /// The same operation in its short form.
+    pub fn short(self) -> Record {
+        Record { op: self.op | SHORT, ..self }
+    }
+
+    pub fn length(self) -> u32 {
+        length(self.op)
+    }
 
     pub fn bytes(self) -> [u8; 8] {
         let [w, x, y, z] = self.imm.to_le_bytes();
@@ -24,6 +42,22 @@ impl Record {
 pub struct Body {
     pub load: u32,
     pub records: Vec<Record>,
+}
+
+impl Body {
+    /// Where each record begins, and last where the code range ends.
+    pub fn addresses(&self) -> Vec<u32> {
+        let ends = self.records.iter().scan(self.load, |at, record| {
+            *at += record.length();
+            Some(*at)
+        });
+        [self.load].into_iter().chain(ends).collect()
+    }
+
+    /// The address past the last record.
+    pub fn end(&self) -> u32 {
+        self.load + self.records.iter().map(|record| record.length()).sum::<u32>()
+    }
 }
 
 /// The image of some bodies: the table, then the bodies without gaps.
@@ -47,16 +81,23 @@ pub fn word(bytes: &[u8], at: usize) -> u32 {
     u32::from_le_bytes(bytes[at..at + 4].try_into().unwrap())
 }
 
-/// The record that begins at pc, of an image in order.
+/// The bodies of an image in order.
+pub fn bodies(image: &[u8]) -> Vec<Body> {
+    let record = |r: &[u8]| Record { op: r[0], c: r[1], a: r[2], b: r[3], imm: word(r, 4) };
+    let entries = image[4..].chunks_exact(12).take(word(image, 0) as usize);
+    entries
+        .map(|entry| {
+            let [load, count, offset] = [0, 4, 8].map(|at| word(entry, at));
+            let records = image[offset as usize..].chunks_exact(8).take(count as usize);
+            Body { load, records: records.map(record).collect() }
+        })
+        .collect()
+}
+
+/// The record that begins at pc, of an image in order, by a walk.
 pub fn record_at(image: &[u8], pc: u32) -> Option<Record> {
-    for entry in image[4..].chunks_exact(12).take(word(image, 0) as usize) {
-        let (load, count, offset) = (word(entry, 0), word(entry, 4), word(entry, 8));
-        let distance = pc.wrapping_sub(load);
-        if pc >= load && distance % 4 == 0 && distance / 4 < count {
-            let at = offset as usize + 2 * distance as usize;
-            let r = &image[at..at + 8];
-            return Some(Record { op: r[0], c: r[1], a: r[2], b: r[3], imm: word(r, 4) });
-        }
-    }
-    None
+    bodies(image).iter().find_map(|body| {
+        let place = body.addresses().iter().position(|at| *at == pc)?;
+        body.records.get(place).copied()
+    })
 }

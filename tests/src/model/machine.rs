@@ -1,7 +1,7 @@
 //! The step, the run, and the host's three functions.
 
-use super::checks;
-use super::code::Code;
+use super::checks::{self, Lengths};
+use super::code::{Code, Long, Mixed};
 use super::core::{Core, RECORD};
 use super::event::{answer, Event, Stop, Undone, CODE};
 use super::fields::{icr, request};
@@ -13,11 +13,11 @@ use super::windows::Windows;
 /// A machine whose inputs were accepted. The registers come first and at the start of a cache line, so that the speed does not
 /// depend on where the stack is.
 #[repr(C, align(64))]
-pub struct Machine<'a, O> {
+pub struct Machine<'a, O, C> {
     pub core: Core,
     pub windows: Windows<&'a mut [u8]>,
     pub observer: O,
-    code: Code<'a>,
+    code: C,
     /// Priority number and source of the foremost request, or `UNKNOWN`.
     foremost: (u32, usize),
 }
@@ -34,9 +34,9 @@ fn foremost(requests: &[u32; 16]) -> (u32, usize) {
     asking.map(|(source, word)| (word & request::PRIORITY, source)).max().unwrap_or((0, 0))
 }
 
-impl<'a, O: Observer> Machine<'a, O> {
-    pub fn new(core: Core, windows: Windows<&'a mut [u8]>, image: &'a [u8], observer: O) -> Self {
-        Machine { core, windows, observer, code: Code::new(image), foremost: UNKNOWN }
+impl<'a, O: Observer, C: Code> Machine<'a, O, C> {
+    pub fn new(core: Core, windows: Windows<&'a mut [u8]>, code: C, observer: O) -> Self {
+        Machine { core, windows, observer, code, foremost: UNKNOWN }
     }
 
     #[inline(always)]
@@ -72,7 +72,7 @@ impl<'a, O: Observer> Machine<'a, O> {
             Err(Undone::Stop(stop)) => Err(stop),
             Err(Undone::Trap(trap)) => {
                 let goes_on = matches!(instruction.operation, Syscall | Trapv | Trapsv);
-                self.trap(trap, if goes_on { pc.wrapping_add(4) } else { pc })
+                self.trap(trap, if goes_on { pc.wrapping_add(instruction.length) } else { pc })
             }
         }
     }
@@ -106,30 +106,60 @@ pub fn start(record: &[u8], base: u32, window: &[u8], second_base: u32, second: 
     }
 }
 
+/// What is done with a machine whose inputs were accepted: the answer.
+trait Work<O> {
+    fn of<C: Code>(self, machine: &mut Machine<O, C>) -> u64;
+}
+
+struct Step;
+struct Run(u32);
+
+impl<O: Observer> Work<(O, Permits)> for Step {
+    fn of<C: Code>(self, machine: &mut Machine<(O, Permits), C>) -> u64 {
+        word_of(machine.step()) | answer::permits(machine.observer.1)
+    }
+}
+
+impl<O: Observer> Work<O> for Run {
+    fn of<C: Code>(self, machine: &mut Machine<O, C>) -> u64 {
+        let (made, outcome) = machine.run(self.0);
+        word_of(outcome) | (made as u64) << 32
+    }
+}
+
+fn worked<O: Observer>(
+    record: &mut [u8; RECORD],
+    windows: Windows<&mut [u8]>,
+    code: impl Code,
+    observer: O,
+    work: impl Work<O>,
+) -> u64 {
+    let mut machine = Machine::new(Core::from_record(record), windows, code, observer);
+    let answer = work.of(&mut machine);
+    machine.core.update_record(record);
+    answer
+}
+
 /// Steps with a watcher: the answer of `work` on the machine, where the inputs are accepted.
 fn attempt<O: Observer>(
     record: &mut [u8],
     windows: Windows<&mut [u8]>,
     image: &[u8],
     observer: O,
-    work: impl FnOnce(&mut Machine<O>) -> u64,
+    work: impl Work<O>,
 ) -> u64 {
     let Ok(record): Result<&mut [u8; RECORD], _> = record.try_into() else {
         return answer::WRONG_LENGTH;
     };
-    if let Err(refusal) = checks::step(&windows, image, Core::pc_of(record)) {
-        return answer::refused(refusal);
+    match checks::accept(&windows, image, Core::pc_of(record)) {
+        Ok(Lengths::Long) => worked(record, windows, Long::new(image), observer, work),
+        Ok(Lengths::Mixed) => worked(record, windows, Mixed::new(image), observer, work),
+        Err(refusal) => answer::refused(refusal),
     }
-    let mut machine = Machine::new(Core::from_record(record), windows, image, observer);
-    let answer = work(&mut machine);
-    machine.core.update_record(record);
-    answer
 }
 
 pub fn step_observed(record: &mut [u8], windows: Windows<&mut [u8]>, image: &[u8], observer: impl Observer) -> u64 {
-    attempt(record, windows, image, (observer, Permits::default()), |machine| {
-        word_of(machine.step()) | answer::permits(machine.observer.1)
-    })
+    attempt(record, windows, image, (observer, Permits::default()), Step)
 }
 
 pub fn run_observed(
@@ -139,10 +169,7 @@ pub fn run_observed(
     n: u32,
     observer: impl Observer,
 ) -> u64 {
-    attempt(record, windows, image, observer, |machine| {
-        let (made, outcome) = machine.run(n);
-        word_of(outcome) | (made as u64) << 32
-    })
+    attempt(record, windows, image, observer, Run(n))
 }
 
 pub fn step(record: &mut [u8], base: u32, window: &mut [u8], second_base: u32, second: &mut [u8], image: &[u8]) -> u64 {

@@ -1,12 +1,12 @@
 //! Loads and stores.
 
-use super::code::Instruction;
+use super::code::{Code, Instruction};
 use super::event::{Trap, ALN, DATA};
 use super::machine::Machine;
 use super::observer::Observer;
 use super::protection::Access;
 
-impl<O: Observer> Machine<'_, O> {
+impl<O: Observer, C: Code> Machine<'_, O, C> {
     /// The address of an access. `pointer` is A[c] for LD.A: its guard comes before the alignment.
     #[inline(always)]
     fn reach(&mut self, i: Instruction, access: Access, align: u32, pointer: Option<usize>) -> Result<u32, Trap> {

@@ -1,6 +1,7 @@
 //! The pool walk: its whole output for an image.
 
 use super::checks;
+use super::code::Mixed;
 use super::core::Core;
 use super::event::Event;
 use super::image::word;
@@ -34,7 +35,7 @@ pub fn walk(image: &[u8]) -> String {
         return format!("refused {} {}\n", refusal.number, refusal.place);
     }
     core.pc = word(image, 4);
-    let mut machine = Machine::new(core, windows.lent(), image, ());
+    let mut machine = Machine::new(core, windows.lent(), Mixed::new(image), ());
     let mut text = String::from("event pc next fcx pcxi\n");
     let mut made = 0;
     while made < MOST_STEPS {
