@@ -112,9 +112,10 @@ pub fn try_start(
     })
 }
 
-/// The fields of a record: c, a, b and the immediate.
+/// A record: its length in addresses, c, a, b and the immediate.
 #[derive(Debug, PartialEq, Eq, Clone, Copy)]
 pub struct Fields {
+    pub length: u8,
     pub c: u8,
     pub a: u8,
     pub b: u8,
@@ -125,5 +126,6 @@ pub struct Fields {
 pub fn fetch(image: &[u8], pc: u32) -> Option<Fields> {
     let answer = unsafe { deqbaryn_fetch(image.as_ptr(), image.len(), pc) };
     let byte = |n: u32| (answer >> (8 * n)) as u8;
-    (byte(0) == 1).then(|| Fields { c: byte(1), a: byte(2), b: byte(3), imm: (answer >> 32) as u32 })
+    let imm = (answer >> 32) as u32;
+    (byte(0) != 0).then(|| Fields { length: byte(0), c: byte(1), a: byte(2), b: byte(3), imm })
 }

@@ -157,7 +157,8 @@ fn records_are_found_where_they_begin() {
     ];
     let bytes = build(&bodies);
     for pc in (0xF8..0x130).chain(0xDFFF_FFE8..0xE000_0008).chain([0, u32::MAX]) {
-        let expected = record_at(&bytes, pc).map(|r| inputs::Fields { c: r.c, a: r.a, b: r.b, imm: r.imm });
+        let fields = |r: Record| inputs::Fields { length: r.length() as u8, c: r.c, a: r.a, b: r.b, imm: r.imm };
+        let expected = record_at(&bytes, pc).map(fields);
         assert_eq!(inputs::fetch(&bytes, pc), expected, "{pc:X}");
         let inside = (0x100..0x114).contains(&pc) || (0xDFFF_FFF0..0xE000_0000).contains(&pc);
         assert_eq!(expected.is_some(), inside && pc % 4 == 0, "{pc:X}");
