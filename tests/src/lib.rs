@@ -7,6 +7,7 @@ pub mod generate;
 pub mod host;
 pub mod inputs;
 pub mod integer;
+pub mod lengths;
 pub mod model;
 pub mod report;
 pub mod rules;

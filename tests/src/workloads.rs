@@ -1,8 +1,9 @@
 //! What the benchmark runs: images that never trap or stop, each with its registers.
 
 use crate::generate::draw::Draw;
+use crate::lengths;
 use crate::model::core::{Core, Range};
-use crate::model::image::Record;
+use crate::model::image::{bodies, build, Record};
 use crate::model::operations::Operation::{self, *};
 use crate::model::windows::Window;
 use crate::worked::{areas, record, Worked, BASE, LOAD};
@@ -31,7 +32,13 @@ fn endless(mut records: Vec<Record>) -> Vec<Record> {
 }
 
 pub fn integer() -> Worked {
-    let mut w = worked(&[
+    integer_after(0)
+}
+
+/// The integer loop after so many records that are passed over.
+pub fn integer_after(before: usize) -> Worked {
+    let mut records = vec![Record::NOP; before];
+    records.extend([
         record(Add, 1, 1, 2, 0),
         record(Xor, 3, 1, 16, 0x5A5A_A5A5),
         record(Sha, 4, 3, 16, 0xFFFF_FFFD),
@@ -42,7 +49,9 @@ pub fn integer() -> Worked {
         record(Loop, 0, 3, 0, 28u32.wrapping_neg()),
         record(J, 0, 0, 0, 32u32.wrapping_neg()),
     ]);
+    let mut w = worked(&records);
     w.core.a[3] = 0xFFFF_FFFF;
+    w.core.pc += 4 * before as u32;
     w
 }
 
@@ -99,6 +108,45 @@ pub fn mix(seed: u64) -> Worked {
     let mut records = endless(records);
     records.extend([record(Add, 9, 8, 9, 0), record(Ret, 0, 0, 0, 0)]);
     worked(&records)
+}
+
+/// So many integer operations, a few of them in turn, then the first one again: what is measured is how they are come by.
+pub fn straight(count: usize) -> Worked {
+    let turn = [record(Add, 1, 1, 16, 1), record(Xor, 3, 1, 4, 0), record(Or, 5, 3, 6, 0), record(Mov, 7, 0, 5, 0)];
+    worked(&endless(turn.into_iter().cycle().take(count).collect()))
+}
+
+/// A displacement over so many records.
+fn over(records: usize) -> u32 {
+    4 * records as u32
+}
+
+/// Two instructions and a jump over so many records, and from there the same back.
+pub fn jumps(apart: usize) -> Worked {
+    let way = [record(Add, 1, 1, 16, 1), record(Xor, 3, 1, 4, 0)];
+    let mut records = way.to_vec();
+    records.push(record(J, 0, 0, 0, over(1 + apart)));
+    records.resize(3 + apart, Record::NOP);
+    records.extend(way);
+    worked(&endless(records))
+}
+
+/// Calls of a routine so many records away.
+pub fn far_calls(apart: usize) -> Worked {
+    let mut records = endless(vec![record(Call, 0, 0, 0, over(3 + apart)), record(Add, 1, 1, 16, 1)]);
+    records.resize(3 + apart, Record::NOP);
+    records.extend([record(Add, 8, 8, 16, 1), record(Ret, 0, 0, 0, 0)]);
+    worked(&records)
+}
+
+/// The same with half of its records short, PC at the record that it was at.
+pub fn half_short(mut w: Worked) -> Worked {
+    let before = &bodies(&w.image)[0];
+    let after = lengths::half_short(before);
+    let place = before.addresses().binary_search(&w.core.pc).expect("PC at a record");
+    w.core.pc = after.addresses()[place];
+    w.image = build(&[after]);
+    w
 }
 
 /// The same with protection on, in the last range of each kind.
