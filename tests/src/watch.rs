@@ -2,6 +2,8 @@
 
 use crate::book::{Book, Registers};
 use crate::coverage::extents::Extents;
+use crate::coverage::lengths::Step;
+use crate::coverage::places::Places;
 use crate::coverage::windows::Called;
 use crate::coverage::Coverage;
 use crate::model::code::Instruction;
@@ -38,11 +40,16 @@ pub struct Watcher {
     /// The first thing at which the machine and the book differ.
     pub fault: Option<String>,
     extents: Extents,
+    /// Where the records of the series' images lie, of those that are in order; which one is lent, and whether to a run.
+    places: Vec<Option<Places>>,
+    lent: usize,
+    in_run: bool,
     /// The windows of the series' latest save and return.
     saved_in: Option<usize>,
     returned_from: Option<usize>,
     /// Of the latest step: what it began with, and what it fetched.
     requests: [u32; 16],
+    pc: u32,
     lcx: u32,
     psw: u32,
     instruction: Option<Instruction>,
@@ -76,21 +83,33 @@ impl Watcher {
             return;
         }
         self.coverage.told(answer);
+        let short = self.instruction.is_some_and(|instruction| instruction.length == 2);
         for (access, ranges) in &self.permitted {
             self.coverage.permitted(*access, ranges);
+            if short {
+                self.coverage.lengths.told(*access);
+            }
         }
     }
 
-    /// A series begins, with these windows.
-    pub fn begins_series(&mut self, windows: &Windows<Vec<u8>>) {
+    /// A series begins, with these windows and images.
+    pub fn begins_series(&mut self, windows: &Windows<Vec<u8>>, images: &[Vec<u8>]) {
         self.book = None;
+        self.places = images.iter().map(|image| Places::of(image)).collect();
         self.extents = Extents::of(windows);
         (self.saved_in, self.returned_from) = (None, None);
+    }
+
+    /// A call is about to get an image.
+    pub fn lends(&mut self, image: usize, called: Called) {
+        self.lent = image;
+        self.in_run = matches!(called, Called::Run);
     }
 
     /// The answer of a start; the book begins where it is accepted.
     pub fn started(&mut self, answer: u64, core: &Core, windows: &Windows<Vec<u8>>) {
         self.coverage.answer(answer);
+        self.coverage.lengths.started(answer, self.places[self.lent].as_ref());
         self.coverage.windows.answer(Called::Start, &self.extents, answer);
         if answer == ACCEPTED && self.book.is_none() {
             let book = Book::begin(core, windows);
@@ -103,6 +122,9 @@ impl Watcher {
     pub fn called(&mut self, called: Called, answer: u64, core: &Core, windows: &Windows<Vec<u8>>) {
         self.coverage.answer(answer);
         self.coverage.windows.answer(called, &self.extents, answer);
+        if let (0..4, Some(places)) = (answer as u8, &self.places[self.lent]) {
+            self.coverage.lengths.called(places, self.in_run.then_some((answer >> 32) as u32));
+        }
         if let Some(book) = &self.book {
             let result = book.compare(core, windows);
             self.kept.refused += (answer as u8 == 4) as u64;
@@ -151,6 +173,7 @@ impl Observer for &mut Watcher {
     fn begins(&mut self, core: &Core) {
         self.coverage.begins(core);
         self.requests = core.requests;
+        self.pc = core.pc;
         self.lcx = core.lcx;
         self.psw = core.psw;
         self.instruction = None;
@@ -220,6 +243,9 @@ impl Observer for &mut Watcher {
         if let (Some(instruction), Ok(Event::Instruction)) = (self.instruction, outcome) {
             self.coverage.done(instruction, self.psw, core);
         }
+        let places = self.places[self.lent].as_ref().expect("in order");
+        let &mut &mut Watcher { pc, instruction, in_run, ref entries, .. } = self;
+        self.coverage.lengths.ends(&Step { places, pc, instruction, entries, outcome, in_run }, core);
         self.accessed(outcome);
         if outcome == Err(Stop::Outside) {
             self.stopped_outside(core);

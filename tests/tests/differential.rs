@@ -17,6 +17,8 @@ const LEAST_RETURNS: u64 = 2_000;
 const LEAST_OTHERS: u64 = 100;
 /// Of each layout, refusal, way between the windows and access at their ends.
 const LEAST_OF_WINDOWS: u64 = 100;
+/// Of each operation in its short form, of each refusal for a length, way within a body and step across two.
+const LEAST_OF_LENGTHS: u64 = 100;
 /// Of each: reads, writes and fetches that several ranges permit, the set's first among them and not.
 const LEAST_OVERLAPS: u64 = 1_000;
 /// Of each saturating operation: results that show AV, and SAV, to be taken before saturation.
@@ -80,10 +82,12 @@ fn set(core: &mut [u8], change: Change) {
 fn start(seed: u64, series: &Series, watcher: &mut Watcher) {
     let Series { windows, core, images, .. } = series;
     let before = windows.clone();
-    for image in images {
+    for (k, image) in images.iter().enumerate() {
         let proved = windows.start(host::start, core, image);
         let model = windows.start(machine::start, core, image);
         assert!(proved == model, "DEQBARYN_SEED={seed}: start, proved {proved:016X}, model {model:016X}");
+        watcher.lends(k, Called::Start);
+        watcher.coverage.lengths.answer(model, image);
         watcher.started(model, &Core::from_record(core), windows);
     }
     for length in [0, RECORD - 1] {
@@ -112,10 +116,17 @@ fn call_both(name: &dyn Fn() -> String, side: &mut Side, image: &[u8], kind: Kin
     m
 }
 
+fn called(kind: Kind) -> Called {
+    match kind {
+        Kind::Run(_) => Called::Run,
+        Kind::Step => Called::Step,
+    }
+}
+
 /// One series, compared after each call. A stop is tried again twice, since only the host's requests could end it.
 fn walk(seed: u64, watcher: &mut Watcher) {
     let series = series(seed);
-    watcher.begins_series(&series.windows);
+    watcher.begins_series(&series.windows, &series.images);
     start(seed, &series, watcher);
     let mut side = Side { core: series.core.to_vec(), windows: series.windows };
     let mut stops = 0;
@@ -126,20 +137,17 @@ fn walk(seed: u64, watcher: &mut Watcher) {
         let name = || format!("DEQBARYN_SEED={seed}: call {k}, {:?} of image {}", call.kind, call.image);
         let whole = side.core.clone();
         side.core.resize(call.length, 0xA5);
-        let answer = call_both(&name, &mut side, &series.images[call.image], call.kind, watcher);
+        let (image, called) = (&series.images[call.image], called(call.kind));
+        watcher.lends(call.image, called);
+        let answer = call_both(&name, &mut side, image, call.kind, watcher);
         if call.length != RECORD {
             side.core = whole;
         }
-        let called = match call.kind {
-            Kind::Run(n) => {
-                watcher.coverage.run(n, answer);
-                Called::Run
-            }
-            Kind::Step => {
-                watcher.told(answer);
-                Called::Step
-            }
-        };
+        match call.kind {
+            Kind::Run(n) => watcher.coverage.run(n, answer),
+            Kind::Step => watcher.told(answer),
+        }
+        watcher.coverage.lengths.answer(answer, image);
         let core = Core::from_record(side.core.as_slice().try_into().unwrap());
         watcher.called(called, answer, &core, &side.windows);
         if let Some(fault) = &watcher.fault {
@@ -173,6 +181,8 @@ fn the_proved_machine_agrees_with_the_second_model() {
     assert!(saturated >= LEAST_SATURATED, "{saturated} results only of an operation show where AV or SAV is taken");
     let (what, count) = watcher.coverage.fewest_of_windows();
     assert!(count >= LEAST_OF_WINDOWS, "{what} was met {count} times only");
+    let (what, count) = watcher.coverage.fewest_of_lengths();
+    assert!(count >= LEAST_OF_LENGTHS, "{what} was met {count} times only");
     assert!(met >= LEAST_SERIES, "the conditions held in {met} series only");
     let kept = watcher.kept;
     assert!(kept.returns >= LEAST_RETURNS, "{} returns only were compared", kept.returns);

@@ -1,6 +1,9 @@
 //! What a series of steps has met.
 
 pub mod extents;
+pub mod lengths;
+pub mod places;
+mod refused;
 pub mod windows;
 
 use crate::model::code::Instruction;
@@ -13,6 +16,7 @@ use crate::model::integer::advanced;
 use crate::model::operations::Operation::{self, Adds, AddsU, Subs, SubsU};
 use crate::model::operations::NAMES;
 use crate::model::protection::Access;
+use lengths::LengthCounts;
 use std::fmt;
 use windows::WindowCounts;
 
@@ -54,6 +58,7 @@ pub struct Coverage {
     psw: [u64; 128],
     cdc: [u64; 128],
     pub windows: WindowCounts,
+    pub lengths: LengthCounts,
 }
 
 impl Default for Coverage {
@@ -82,6 +87,7 @@ impl Default for Coverage {
             psw: [0; 128],
             cdc: [0; 128],
             windows: WindowCounts::default(),
+            lengths: LengthCounts::default(),
         }
     }
 }
@@ -237,9 +243,15 @@ impl Coverage {
         self.windows.counts().into_iter().min_by_key(|(_, n)| *n).unwrap()
     }
 
+    /// What of the lengths was met least.
+    pub fn fewest_of_lengths(&self) -> (String, u64) {
+        self.lengths.counts().into_iter().min_by_key(|(_, n)| *n).unwrap()
+    }
+
     /// What was never met.
     pub fn missing(&self) -> Vec<String> {
-        let all = self.counts().into_iter().chain(self.patterns()).chain(self.windows.counts());
+        let others = self.windows.counts().into_iter().chain(self.lengths.counts());
+        let all = self.counts().into_iter().chain(self.patterns()).chain(others);
         all.filter(|(_, n)| *n == 0).map(|(name, _)| name).collect()
     }
 }
@@ -255,11 +267,13 @@ impl fmt::Display for Coverage {
             }
             writeln!(f)?;
         }
-        for row in self.windows.counts().chunks(3) {
-            for (name, n) in row {
-                write!(f, "{name:<41}{n:>9}   ")?;
+        for counts in [self.windows.counts(), self.lengths.counts()] {
+            for row in counts.chunks(3) {
+                for (name, n) in row {
+                    write!(f, "{name:<41}{n:>9}   ")?;
+                }
+                writeln!(f)?;
             }
-            writeln!(f)?;
         }
         Ok(())
     }

@@ -1,8 +1,10 @@
-//! Images: valid ones, and damaged ones.
+//! Images: the operands of a sketch.
 
 use super::draw::Draw;
 use super::plan::Plan;
-use crate::model::image::{build, word, Body, Record};
+use super::sketch::{Outline, Part, Sketch};
+use crate::lengths::is_relative;
+use crate::model::image::{build, Body, Record, SHORT};
 use crate::model::operations::Operation::{self, *};
 use crate::model::system::offset;
 
@@ -48,39 +50,70 @@ fn core_register(draw: &mut Draw, plan: &Plan, write: bool) -> u32 {
     }
 }
 
-/// A record of an operation at an address.
-fn record(draw: &mut Draw, plan: &Plan, op: Operation, at: u32) -> Record {
-    let [c, mut a] = [draw.below(16) as u8, draw.below(16) as u8];
-    let mut b = draw.below(17) as u8;
-    let mut imm = draw.edge();
-    match op {
-        _ if MEMORY.contains(&op) => {
-            imm = displacement(draw, plan);
-            if draw.percent(85) {
-                a = draw.within(2, 10) as u8;
-            }
-        }
-        Ji | Calli if draw.percent(85) => a = draw.within(11, 15) as u8,
-        J | Jl | Call | Jeq | Jne | Jlt | JltU | Jge | JgeU | Loop => {
-            b = b.min(15);
-            let routine = plan.routines + 4 * draw.below(24);
-            let target = if op == Call && draw.percent(85) { routine } else { plan.code_address(draw) };
-            imm = target.wrapping_sub(at);
-        }
-        AddA | SubA if draw.percent(70) => {
-            b = 16;
-            imm = draw.pick(&[0, 4, 4, 8]);
-        }
-        Mfcr | Mtcr => imm = core_register(draw, plan, op == Mtcr),
-        Bisr if draw.percent(80) => imm = draw.below(8),
-        _ => {}
-    }
-    Record { op: op as u8, c, a, b, imm }
+/// Where the operands are drawn from.
+pub struct Pen<'a> {
+    pub plan: &'a Plan,
+    pub sketch: &'a Sketch,
 }
 
-fn some(draw: &mut Draw, plan: &Plan, at: u32) -> Record {
-    let op = operation(draw);
-    record(draw, plan, op, at)
+impl Pen<'_> {
+    /// A record of an operation at an address.
+    fn record(&self, draw: &mut Draw, op: Operation, at: u32) -> Record {
+        let Pen { plan, sketch } = self;
+        let [c, mut a] = [draw.below(16) as u8, draw.below(16) as u8];
+        let mut b = draw.below(17) as u8;
+        let mut imm = draw.edge();
+        match op {
+            _ if MEMORY.contains(&op) => {
+                imm = displacement(draw, plan);
+                if draw.percent(85) {
+                    a = draw.within(2, 10) as u8;
+                }
+            }
+            Ji | Calli if draw.percent(85) => a = draw.within(11, 15) as u8,
+            _ if is_relative(op) => {
+                b = b.min(15);
+                let target = if op == Call { sketch.routine(draw) } else { sketch.address(draw) };
+                imm = target.wrapping_sub(at);
+            }
+            AddA | SubA if draw.percent(70) => {
+                b = 16;
+                imm = draw.pick(&[0, 2, 4, 4, 8]);
+            }
+            Mfcr | Mtcr => imm = core_register(draw, plan, op == Mtcr),
+            Bisr if draw.percent(80) => imm = draw.below(8),
+            _ => {}
+        }
+        Record { op: op as u8, c, a, b, imm }
+    }
+
+    fn part(&self, draw: &mut Draw, outline: &Outline, part: Part, at: u32) -> Record {
+        let main = self.sketch.load();
+        match part {
+            Part::Far => {
+                let op = draw.pick(&[J, Jl, Jne, Jge, JltU, Loop, Call]);
+                let imm = outline.start(draw, usize::MAX).wrapping_sub(at);
+                Record { imm, ..self.record(draw, op, at) }
+            }
+            Part::Any => {
+                let op = operation(draw);
+                self.record(draw, op, at)
+            }
+            // a handler goes back to the first record of all
+            Part::Given(record) if record.op == MovA as u8 => Record { imm: main, ..record },
+            Part::Given(record) => record,
+            Part::Back => Record { op: J as u8, imm: main.wrapping_sub(at), ..Record::NOP },
+        }
+    }
+
+    fn body(&self, draw: &mut Draw, outline: &Outline) -> Body {
+        let mut records = Vec::new();
+        for ((part, short), at) in outline.parts.iter().zip(&outline.starts) {
+            let record = self.part(draw, outline, *part, *at);
+            records.push(if *short { record.short() } else { record });
+        }
+        Body { load: outline.load(), records }
+    }
 }
 
 /// A pointer to an end of a window, and an access through it.
@@ -94,109 +127,32 @@ fn border_access(draw: &mut Draw, plan: &Plan) -> [Record; 2] {
     ]
 }
 
-/// Passes over the instruction that trapped.
-const SKIP: Record = Record { op: AddA as u8, c: 11, a: 11, b: 16, imm: 4 };
-
-fn plain(op: Operation) -> Record {
-    Record { op: op as u8, ..Record::NOP }
+/// Puts an access at an end of a window into a body, in the lengths that are there.
+fn put_border_access(draw: &mut Draw, plan: &Plan, body: &mut Body) {
+    if body.records.len() > 2 {
+        let at = draw.below(body.records.len() as u32 - 2) as usize;
+        for (place, record) in body.records[at..].iter_mut().zip(border_access(draw, plan)) {
+            *place = Record { op: record.op | place.op & SHORT, ..record };
+        }
+    }
 }
 
-fn main_body(draw: &mut Draw, plan: &Plan) -> Body {
-    let count = draw.within(8, 40);
-    let mut records: Vec<Record> = (0..count).map(|k| some(draw, plan, plan.main + 4 * k)).collect();
+/// The bodies of a sketch, or the first of them.
+pub fn bodies(draw: &mut Draw, plan: &Plan, sketch: &Sketch) -> Vec<Body> {
+    let most = sketch.main.len() + draw.pick(&[0, 1, 2, 2, 2, 2, 2, 2, 3, 3]);
+    let pen = Pen { plan, sketch };
+    let mut bodies: Vec<Body> = sketch.bodies().take(most).map(|outline| pen.body(draw, outline)).collect();
     if draw.percent(40) {
-        let at = draw.below(count - 2) as usize;
-        records[at..at + 2].copy_from_slice(&border_access(draw, plan));
+        put_border_access(draw, plan, &mut bodies[0]);
     }
-    let back = (4 * (count - 1)).wrapping_neg();
-    records[count as usize - 1] = Record { imm: back, ..plain(J) };
-    Body { load: plan.main, records }
+    bodies
 }
 
-/// A handler for each class and each priority number up to 7.
-fn vectors(draw: &mut Draw, plan: &Plan) -> Body {
-    let mut records = Vec::new();
-    for slot in 0..8 {
-        let mut handler: Vec<Record> =
-            (0..draw.below(4)).map(|k| some(draw, plan, plan.vectors + 32 * slot + 4 * k)).collect();
-        // after 4/1 the next address has no record either
-        match slot {
-            4 if draw.percent(90) => handler.push(Record { op: MovA as u8, c: 11, a: 0, b: 16, imm: plan.main }),
-            _ if draw.percent(75) => handler.push(SKIP),
-            _ => {}
-        }
-        handler.push(plain(if draw.percent(90) { Rfe } else { Ret }));
-        handler.resize(8, Record::NOP);
-        records.append(&mut handler);
-    }
-    Body { load: plan.vectors, records }
-}
-
-/// Short routines that end in RET, some with the lower half saved around them.
-fn routines(draw: &mut Draw, plan: &Plan) -> Body {
-    let mut records = Vec::new();
-    for _ in 0..6 {
-        let lower = draw.percent(40);
-        if lower {
-            records.push(plain(Svlcx));
-        }
-        for _ in 0..draw.below(5) {
-            records.push(some(draw, plan, plan.routines + 4 * records.len() as u32));
-        }
-        if lower {
-            records.push(plain(Rslcx));
-        }
-        records.push(plain(Ret));
-    }
-    if draw.percent(10) {
-        records.resize(64, Record::NOP);
-    }
-    Body { load: plan.routines, records }
-}
-
+/// An image of the plan's sketch, or of another one in its place.
 pub fn image(draw: &mut Draw, plan: &Plan) -> Vec<u8> {
-    let mut bodies = vec![main_body(draw, plan)];
-    let entries = draw.pick(&[1, 2, 3, 3, 3, 3, 3, 3, 4, 4]);
-    if entries > 1 {
-        bodies.push(vectors(draw, plan));
+    if !plan.at_the_top && draw.percent(40) {
+        let other = Sketch::new(draw, plan.code.long).moved(plan.code.load());
+        return build(&bodies(draw, plan, &other));
     }
-    if entries > 2 {
-        bodies.push(routines(draw, plan));
-    }
-    if entries > 3 && plan.extra < 0xE000_0000 {
-        let records = (0..draw.within(1, 40)).map(|k| some(draw, plan, plan.extra + 4 * k)).collect();
-        bodies.push(Body { load: plan.extra, records });
-    }
-    build(&bodies)
-}
-
-pub fn damaged(draw: &mut Draw, plan: &Plan) -> Vec<u8> {
-    let mut image = image(draw, plan);
-    let table = 4 + 12 * image[0] as usize;
-    match draw.below(9) {
-        0 => image.truncate(draw.below(image.len() as u32) as usize),
-        1 => image.extend(vec![0; draw.within(1, 9) as usize]),
-        2 => image[0] = draw.pick(&[0, 17, 255]),
-        3 => {
-            // the last code range ends at segment E, or passes it by one record
-            let load = (draw.below(2) << 2) + 0xE000_0000 - 4 * word(&image, table - 8);
-            image[table - 12..table - 8].copy_from_slice(&load.to_le_bytes());
-        }
-        4 | 5 => {
-            let at = draw.below(table as u32) as usize;
-            image[at] = image[at].wrapping_add(draw.pick(&[1, 4, 128, 255]));
-        }
-        _ => {
-            let record = table + 8 * draw.below((image.len() - table) as u32 / 8) as usize;
-            if draw.percent(30) {
-                // the conditional jumps alone take no immediate
-                image[record] = draw.within(Ji as u32, Loop as u32) as u8;
-                image[record + 3] = 16;
-            } else {
-                let field = draw.below(4) as usize;
-                image[record + field] = draw.pick(&[16, 17, 78, 79, 128, 255]);
-            }
-        }
-    }
-    image
+    build(&bodies(draw, plan, &plan.code))
 }

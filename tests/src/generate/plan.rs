@@ -2,6 +2,7 @@
 
 use super::draw::Draw;
 use super::layout::{layout, nameable, Extent};
+use super::sketch::Sketch;
 use crate::model::windows::link_of;
 
 pub struct Plan {
@@ -12,10 +13,9 @@ pub struct Plan {
     pub free: Vec<u32>,
     pub used: Vec<u32>,
     pub scratch: Vec<u32>,
-    pub main: u32,
-    pub vectors: u32,
-    pub routines: u32,
-    pub extra: u32,
+    pub code: Sketch,
+    /// Whether the code ends at segment E.
+    pub at_the_top: bool,
 }
 
 /// Areas left off the lists, for stores.
@@ -52,31 +52,18 @@ impl Plan {
         let on_used = draw.below((listed - on_free).min(12) + 1);
         scratch.extend(free.split_off((on_free + on_used) as usize));
         let used = free.split_off(on_free as usize);
-        let code =
-            draw.pick(&[0x8000_0000, 0x8000_0000, 0x8000_0000, 0xA000_0000, 0, 0x7FFF_FE00, 0xDFFF_FC00, 0xDFFF_FD00]);
-        Plan {
-            tame,
-            windows,
-            free,
-            used,
-            scratch,
-            main: code,
-            vectors: code + 0x100,
-            routines: code + 0x200,
-            extra: code + 0x300,
-        }
+        let sketch = {
+            let long = draw.percent(4);
+            Sketch::new(draw, long)
+        };
+        let at_the_top = draw.percent(25);
+        let base = draw.pick(&[0x8000_0000, 0x8000_0000, 0x8000_0000, 0xA000_0000, 0, 0x7FFF_FE00]);
+        let code = if at_the_top { sketch.at_the_top(draw) } else { sketch.moved(base) };
+        Plan { tame, windows, free, used, scratch, code, at_the_top }
     }
 
     pub fn code_address(&self, draw: &mut Draw) -> u32 {
-        let bodies = [(self.main, 40), (self.vectors, 64), (self.routines, 32), (self.extra, 20)];
-        let (body, records) = bodies[draw.pick(&[0, 0, 0, 0, 1, 1, 2, 2, 3])];
-        let address = body + 4 * draw.below(records);
-        match draw.below(40) {
-            0 => address + draw.below(4),
-            1 => draw.edge(),
-            2 => draw.word() | 0xE000_0000,
-            _ => address,
-        }
+        self.code.address(draw)
     }
 
     /// One of the windows that are not empty.

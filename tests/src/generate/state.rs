@@ -36,7 +36,8 @@ pub fn request(draw: &mut Draw) -> u32 {
 /// A range: for data around a window, for code around the bodies.
 pub fn range(draw: &mut Draw, plan: &Plan, code: bool) -> Range {
     let window = plan.window(draw);
-    let (from, length) = if code { (plan.main, 0x400) } else { (window.base, window.length()) };
+    let code_range = (plan.code.load(), plan.code.end() - plan.code.load());
+    let (from, length) = if code { code_range } else { (window.base, window.length()) };
     let near = |draw: &mut Draw| match draw.below(4) {
         0 => from.wrapping_add(draw.below(length + 16)).wrapping_sub(8),
         _ if code => plan.code_address(draw),
@@ -93,12 +94,13 @@ fn lcx(draw: &mut Draw, plan: &Plan) -> u32 {
 }
 
 pub fn core(draw: &mut Draw, plan: &Plan, fcx: u32, pcxi: u32) -> Core {
+    let vectors = plan.code.vectors.load();
     let mut core = Core {
         pc: match draw.below(50) {
             0 => draw.word(),
-            1 => plan.main + 1,
+            1 => plan.code.load() + 1,
             2..6 => plan.code_address(draw) & !1,
-            _ => plan.main + 4 * draw.below(8),
+            _ => plan.code.main[0].start(draw, 8),
         },
         psw: psw(draw),
         pcxi,
@@ -106,9 +108,9 @@ pub fn core(draw: &mut Draw, plan: &Plan, fcx: u32, pcxi: u32) -> Core {
         lcx: lcx(draw, plan),
         icr: draw.below(2) << 8 | draw.pick(&[0, 0, 1, 3, 5, 6, 255]),
         isp: plan.data_address(draw),
-        biv: plan.vectors,
-        btv: plan.vectors,
-        syscon: draw.pick(&[0, 0, 2]),
+        biv: vectors,
+        btv: vectors,
+        syscon: draw.pick(&[0, 0, 2, 2, 2]),
         ..Core::default()
     };
     if draw.percent(10) {
@@ -117,8 +119,9 @@ pub fn core(draw: &mut Draw, plan: &Plan, fcx: u32, pcxi: u32) -> Core {
     }
     if draw.percent(8) {
         let edge = draw.edge();
-        core.btv = draw.pick(&[edge, plan.main | 1, plan.routines]);
-        core.biv = draw.pick(&[edge, plan.main | 1, plan.routines]);
+        let [main, routines] = [plan.code.load(), plan.code.routines.load()];
+        core.btv = draw.pick(&[edge, main | 1, routines]);
+        core.biv = draw.pick(&[edge, main | 1, routines]);
     }
     for n in 0..16 {
         core.d[n] = data_register(draw, plan);
@@ -131,7 +134,7 @@ pub fn core(draw: &mut Draw, plan: &Plan, fcx: u32, pcxi: u32) -> Core {
         *slot = range(draw, plan, k % 8 >= 4);
         // a set that permits no fetch at all traps at every step
         if k % 8 == 4 && draw.percent(85) {
-            *slot = Range { lower: plan.main, upper: plan.main + 0x400, mode: 0x80 };
+            *slot = Range { lower: plan.code.load(), upper: plan.code.end(), mode: 0x80 };
         }
     }
     core

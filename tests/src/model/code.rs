@@ -4,7 +4,7 @@ use super::image::{length, word};
 use super::operations::Operation;
 use std::mem::take;
 
-#[derive(Clone, Copy)]
+#[derive(Debug, Clone, Copy)]
 pub struct Instruction {
     pub operation: Operation,
     pub c: usize,
