@@ -112,11 +112,11 @@ fn record_fields() {
 
 #[test]
 fn compared_registers_take_no_immediate() {
-    for op in 0..=78u8 {
+    for byte in (0..=78u8).chain(128..=206) {
         let mut bytes = small();
-        bytes[16] = op;
+        bytes[16] = byte;
         bytes[19] = 16;
-        image(&bytes, if (57..=62).contains(&op) { refused(3, 0) } else { Ok(()) });
+        image(&bytes, if (57..=62).contains(&(byte % 128)) { refused(3, 0) } else { Ok(()) });
         bytes[19] = 15;
         image(&bytes, Ok(()));
     }

@@ -173,6 +173,23 @@ fn odd_starting_addresses() {
     }
 }
 
+/// So many bodies of both lengths: apart, or where the one before ends, or at the last load address before that.
+fn drawn_bodies(draw: &mut impl FnMut() -> u32, n: u32) -> Vec<Body> {
+    let mut bodies: Vec<Body> = (0..n).map(|i| body(PC + 64 * i, (draw() % 4 + 1) as usize)).collect();
+    for record in bodies.iter_mut().flat_map(|body| &mut body.records).filter(|_| draw() % 2 == 0) {
+        *record = record.short();
+    }
+    for k in 1..bodies.len() {
+        let end = bodies[k - 1].end();
+        bodies[k].load = match draw() % 4 {
+            0 | 1 => end.next_multiple_of(4),
+            2 => end & !3,
+            _ => bodies[k].load,
+        };
+    }
+    bodies
+}
+
 /// Damaged images and windows, made from a seed.
 #[test]
 fn the_second_model_agrees_on_damaged_inputs() {
@@ -186,7 +203,7 @@ fn the_second_model_agrees_on_damaged_inputs() {
     let (mut accepted, mut by_number) = (0, [0u32; 14]);
     for _ in 0..200_000 {
         let n = draw() % 3 + 1;
-        let bodies: Vec<Body> = (0..n).map(|i| body(PC + 64 * i, (draw() % 4 + 1) as usize)).collect();
+        let bodies = drawn_bodies(&mut draw, n);
         let mut bytes = build(&bodies);
         let mut memory = linked(8);
         if draw() % 2 == 0 {

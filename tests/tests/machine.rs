@@ -155,7 +155,7 @@ fn runs() {
 
 #[test]
 fn the_version_of_the_interface() {
-    assert_eq!(host::version(), 2);
+    assert_eq!(host::version(), 3);
 }
 
 #[test]

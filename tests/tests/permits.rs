@@ -1,6 +1,7 @@
 //! The permitting ranges in a step's answer: the lowest of set PRS, 4 + k in bits 26:24 for the fetch and in 29:27 for the data access.
 
 use deqbaryn_tests::model::core::Range;
+use deqbaryn_tests::model::image::SHORT;
 use deqbaryn_tests::model::operations::Operation::{self, *};
 use deqbaryn_tests::worked::{record, Worked, BASE, LOAD};
 
@@ -28,6 +29,12 @@ fn chosen(op: Operation, set: usize, data: u32, code: u32) -> Worked {
     w
 }
 
+/// The same in the short form.
+fn short(mut w: Worked) -> Worked {
+    w.image[16] |= SHORT;
+    w
+}
+
 /// The number that the answer has for a choice of ranges.
 fn lowest(choice: u32) -> u64 {
     if choice == 0 {
@@ -50,11 +57,14 @@ fn of_every_choice_the_lowest() {
         for set in 0..4 {
             for choice in 0..256 {
                 let (data, code) = (choice & 15, choice >> 4);
-                let (kind, fetch, access) = named(&mut chosen(op, set, data, code));
-                assert_eq!(kind, if data == 0 || code == 0 { 2 } else { 0 });
-                assert_eq!(fetch, lowest(code));
-                // where the fetch traps there is no access
-                assert_eq!(access, if code == 0 { 0 } else { lowest(data) });
+                let long = chosen(op, set, data, code);
+                for mut w in [short(long.clone()), long] {
+                    let (kind, fetch, access) = named(&mut w);
+                    assert_eq!(kind, if data == 0 || code == 0 { 2 } else { 0 });
+                    assert_eq!(fetch, lowest(code));
+                    // where the fetch traps there is no access
+                    assert_eq!(access, if code == 0 { 0 } else { lowest(data) });
+                }
             }
         }
     }
@@ -112,9 +122,10 @@ fn told_of_traps_that_follow() {
 #[test]
 fn told_of_a_step_that_stops() {
     for (op, number, fcx) in [(Svlcx, 11, 0), (Call, 11, 0), (Svlcx, 12, 0xE_0000), (Bisr, 12, 0xD_1000)] {
-        let mut w = chosen(op, 0, 15, 12);
-        w.core.fcx = fcx;
-        assert_eq!(w.step(), 3 | number << 8 | 6 << 24);
+        for mut w in [chosen(op, 0, 15, 12), short(chosen(op, 0, 15, 12))] {
+            w.core.fcx = fcx;
+            assert_eq!(w.step(), 3 | number << 8 | 6 << 24);
+        }
     }
     // an interrupt that stops was asked no range
     let mut w = chosen(Nop, 0, 15, 12);
