@@ -32,7 +32,7 @@ extern "C" {
 }
 
 // DEQBARYN_VERSION of the header that the declarations above are taken from
-const VERSION: u32 = 2;
+const VERSION: u32 = 3;
 
 const BASE: u32 = 0xD000_0000;
 const AREAS: usize = 64;

@@ -6,7 +6,7 @@ use deqbaryn_tests::integer::compute;
 use deqbaryn_tests::model::core::{NAMES as CORE, RECORD};
 use deqbaryn_tests::model::event::{answer, SYS_CLASS, TRAPS, TRAP_NAMES};
 use deqbaryn_tests::model::fields::psw;
-use deqbaryn_tests::model::image::{build, Body, Record};
+use deqbaryn_tests::model::image::{build, Body, Record, SHORT};
 use deqbaryn_tests::model::operations::NAMES;
 use deqbaryn_tests::model::system::offset;
 use std::collections::{BTreeMap, BTreeSet};
@@ -122,6 +122,12 @@ fn the_header_has_the_refusals_and_the_stops() {
     assert_eq!(numbers("refusal"), (1..=6).chain([13]).collect());
     assert_eq!(numbers("stop"), (11..=12).collect());
     assert_eq!(numbers("kind"), (0..=6).collect());
+}
+
+#[test]
+fn the_header_has_the_short_forms() {
+    let line = between(HEADER, "#define DEQBARYN_SHORT ", "\n");
+    assert_eq!(number(line.split_whitespace().next().unwrap()), SHORT as u32);
 }
 
 #[test]
