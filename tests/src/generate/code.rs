@@ -8,6 +8,7 @@ use crate::model::image::{build, Body, Record, SHORT};
 use crate::model::operations::Operation::{self, *};
 use crate::model::system::offset;
 
+const SATURATING: [Operation; 4] = [Adds, AddsU, Subs, SubsU];
 const MEMORY: [Operation; 10] = [LdB, LdBu, LdH, LdHu, LdW, LdA, StB, StH, StW, StA];
 const CONTEXTS: [Operation; 10] = [Call, Calli, Call, Ret, Rfe, Svlcx, Rslcx, Bisr, Syscall, Call];
 const JUMPS: [Operation; 10] = [J, Jl, Ji, Jeq, Jne, Jlt, JltU, Jge, JgeU, Loop];
@@ -15,7 +16,8 @@ const SYSTEM: [Operation; 7] = [Enable, Disable, Mfcr, Mtcr, Trapv, Trapsv, Rstv
 
 fn operation(draw: &mut Draw) -> Operation {
     match draw.below(20) {
-        0..8 => draw.pick(&Operation::ALL),
+        0..7 => draw.pick(&Operation::ALL),
+        7 => draw.pick(&SATURATING),
         8..11 => Operation::ALL[draw.within(1, 43) as usize],
         11..14 => draw.pick(&MEMORY),
         14..17 => draw.pick(&CONTEXTS),
@@ -80,6 +82,10 @@ impl Pen<'_> {
                 b = 16;
                 imm = draw.pick(&[0, 2, 4, 4, 8]);
             }
+            Adds | AddsU | Subs | SubsU if draw.percent(50) => {
+                b = 16;
+                imm = draw.pick(&[0x4000_0001, 0x7FFF_FFFF, 0x8000_0000, 0xC000_0000]);
+            }
             Mfcr | Mtcr => imm = core_register(draw, plan, op == Mtcr),
             Bisr if draw.percent(80) => imm = draw.below(8),
             _ => {}
@@ -89,20 +95,20 @@ impl Pen<'_> {
 
     fn part(&self, draw: &mut Draw, outline: &Outline, part: Part, at: u32) -> Record {
         let main = self.sketch.load();
-        match part {
-            Part::Far => {
-                let op = draw.pick(&[J, Jl, Jne, Jge, JltU, Loop, Call]);
-                let imm = outline.start(draw, usize::MAX).wrapping_sub(at);
-                Record { imm, ..self.record(draw, op, at) }
-            }
-            Part::Any => {
-                let op = operation(draw);
-                self.record(draw, op, at)
-            }
+        let op = match part {
+            Part::Any => operation(draw),
+            Part::Calm => draw.pick(&Operation::ALL[Add as usize..=Mov as usize]),
+            Part::Far => draw.pick(&[J, Jl, Jne, Jge, JltU, Loop]),
+            Part::FarCall => Call,
             // a handler goes back to the first record of all
-            Part::Given(record) if record.op == MovA as u8 => Record { imm: main, ..record },
-            Part::Given(record) => record,
-            Part::Back => Record { op: J as u8, imm: main.wrapping_sub(at), ..Record::NOP },
+            Part::Given(record) if record.op == MovA as u8 => return Record { imm: main, ..record },
+            Part::Given(record) => return record,
+            Part::Back => return Record { op: J as u8, imm: main.wrapping_sub(at), ..Record::NOP },
+        };
+        let record = self.record(draw, op, at);
+        match part {
+            Part::Far | Part::FarCall => Record { imm: outline.start(draw, usize::MAX).wrapping_sub(at), ..record },
+            _ => record,
         }
     }
 

@@ -27,7 +27,7 @@ fn damage_record(draw: &mut Draw, image: &mut [u8], table: usize) {
 fn move_body(draw: &mut Draw, image: &mut [u8]) {
     let bodies = bodies(image);
     let k = draw.below(bodies.len() as u32) as usize;
-    let past = draw.below(2) << 2;
+    let past = draw.pick(&[0, 0, 2, 4, 4]);
     let load = match bodies.len() - 1 {
         last if k == last && draw.percent(70) => {
             let length = bodies[k].end() - bodies[k].load;
@@ -49,7 +49,7 @@ pub fn damaged(draw: &mut Draw, plan: &Plan) -> Vec<u8> {
         3..6 => move_body(draw, &mut image),
         6 | 7 => {
             let at = draw.below(table as u32) as usize;
-            image[at] = image[at].wrapping_add(draw.pick(&[1, 4, 128, 255]));
+            image[at] = image[at].wrapping_add(draw.pick(&[1, 2, 4, 128, 255]));
         }
         _ => damage_record(draw, &mut image, table),
     }

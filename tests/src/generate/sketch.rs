@@ -8,9 +8,12 @@ use crate::model::operations::Operation::{self, *};
 #[derive(Debug, Clone, Copy)]
 pub enum Part {
     Any,
+    /// An integer operation, which never traps.
+    Calm,
     Given(Record),
-    /// A jump or a call to any record of the body.
+    /// A jump to any record of the body, and a call.
     Far,
+    FarCall,
     /// A jump to the first record of all.
     Back,
 }
@@ -90,15 +93,25 @@ fn plain(op: Operation) -> Part {
     Part::Given(Record { op: op as u8, ..Record::NOP })
 }
 
+/// A place in main code; in long code jumps go far, and where it is calm little else happens.
+fn main_part(draw: &mut Draw, long: bool, calm: bool) -> Part {
+    match draw.below(100) {
+        0..12 if long => Part::Far,
+        12..14 if long && !calm => Part::FarCall,
+        _ if calm => Part::Calm,
+        _ => Part::Any,
+    }
+}
+
 /// The main code: a body, or some of which each begins where the one before ends.
 fn main_code(draw: &mut Draw, share: Share, long: bool) -> Vec<Outline> {
     let count = if long { draw.within(200, 700) } else { draw.within(8, 40) };
     let bodies = if long { draw.pick(&[1, 1, 1, 2]) } else { draw.pick(&[1, 1, 1, 2, 2, 3, 4, 12]).min(count / 4) };
+    let calm = long && draw.percent(60);
     let mut outlines: Vec<Outline> = Vec::new();
     for k in 0..bodies {
         let own = count * (k + 1) / bodies - count * k / bodies;
-        let far = |draw: &mut Draw| if long && draw.percent(12) { Part::Far } else { Part::Any };
-        let mut parts: Vec<Part> = (0..own).map(|_| far(draw)).collect();
+        let mut parts: Vec<Part> = (0..own).map(|_| main_part(draw, long, calm)).collect();
         if k + 1 == bodies {
             *parts.last_mut().unwrap() = Part::Back;
         }

@@ -59,11 +59,11 @@ pub fn windows(draw: &mut Draw, plan: &Plan) -> (Windows<Vec<u8>>, u32, u32) {
 pub fn damage(draw: &mut Draw, plan: &Plan, windows: &mut Windows<Vec<u8>>, core: &mut Core) {
     for _ in 0..draw.within(1, 3) {
         let stray = plan.stray_link(draw);
-        match draw.below(8) {
+        match draw.below(10) {
             0 => core.fcx = stray,
-            1 => core.pcxi = core.pcxi & !LINK | stray & LINK,
-            2 => core.fcx = 0,
-            3 => core.lcx = stray,
+            1..4 => core.pcxi = core.pcxi & !LINK | stray & LINK,
+            4 => core.fcx = 0,
+            5 => core.lcx = stray,
             _ => {
                 let window = plan.window(draw);
                 put(windows, window.base + 64 * draw.below(window.areas), stray);
