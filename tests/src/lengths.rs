@@ -10,7 +10,7 @@ pub fn is_relative(op: Operation) -> bool {
 }
 
 /// The same program with some records short: each jump and call leads to the record that it led to.
-pub fn relaid(body: &Body, mut short: impl FnMut(usize) -> bool) -> Body {
+pub fn relaid(body: &Body, short: impl Fn(usize) -> bool) -> Body {
     let before = body.addresses();
     let shortened = |(k, record): (usize, &Record)| if short(k) { record.short() } else { *record };
     let mut relaid = Body { load: body.load, records: body.records.iter().enumerate().map(shortened).collect() };
@@ -25,8 +25,16 @@ pub fn relaid(body: &Body, mut short: impl FnMut(usize) -> bool) -> Body {
     relaid
 }
 
-/// The same with half of the records short, by a seed of its own.
+/// Which of so many records are short, half of them, by a seed.
+pub fn half(count: usize) -> Vec<bool> {
+    let mut short = vec![false; count];
+    short[..count / 2].fill(true);
+    Draw::new(2).shuffle(&mut short);
+    short
+}
+
+/// The same with half of the records short.
 pub fn half_short(body: &Body) -> Body {
-    let draw = &mut Draw::new(2);
-    relaid(body, |_| draw.percent(50))
+    let short = half(body.records.len());
+    relaid(body, |k| short[k])
 }

@@ -1,7 +1,7 @@
 //! The proved code beside plain Rust, in one run: the best of several rounds of each, turn about.
 //! An argument picks the rows whose names have it. With DEQBARYN_LONG set, those with short forms are left out.
 
-use deqbaryn_tests::generate::draw::Draw;
+use deqbaryn_tests::lengths::half;
 use deqbaryn_tests::model::event::answer::PERMITS;
 use deqbaryn_tests::model::image::{build, Body, Record};
 use deqbaryn_tests::model::operations::Operation;
@@ -35,18 +35,18 @@ fn shortest<R>(calls: u32, mut proved: impl FnMut() -> R, mut plain: impl FnMut(
 /// Nanoseconds for each of both, and how many times as many the proved code takes.
 fn line(what: &str, calls: u32, unit: u32, [proved, plain]: [Duration; 2]) {
     let each = |d: Duration| d.as_secs_f64() * 1e9 / calls as f64 / unit as f64;
-    println!("{what:<50} {:>9.3} {:>9.3} {:>6.2}", each(proved), each(plain), each(proved) / each(plain));
+    println!("{what:<54} {:>9.3} {:>9.3} {:>6.2}", each(proved), each(plain), each(proved) / each(plain));
 }
 
 /// Steps a second of both, in millions, and how many times as many the proved code makes.
 fn rate(what: &str, steps: u32, [proved, plain]: [Duration; 2]) {
     let each = |d: Duration| steps as f64 / d.as_secs_f64() / 1e6;
     let digits = if each(plain) < 10.0 { 4 } else { 1 };
-    println!("{what:<50} {:>9.digits$} {:>9.digits$} {:>6.2}", each(proved), each(plain), each(proved) / each(plain));
+    println!("{what:<54} {:>9.digits$} {:>9.digits$} {:>6.2}", each(proved), each(plain), each(proved) / each(plain));
 }
 
 fn heading(what: &str) {
-    println!("{what:<50} {:>9} {:>9} {:>6}", "proved", "plain", "ratio");
+    println!("{what:<54} {:>9} {:>9} {:>6}", "proved", "plain", "ratio");
 }
 
 /// Whether a row is asked for.
@@ -96,9 +96,9 @@ fn image(what: &str, bodies: &[Body]) {
 
 /// The same with half of the records short.
 fn shortened(bodies: &[Body]) -> Vec<Body> {
-    let draw = &mut Draw::new(2);
-    let mut record = |r: &Record| if draw.percent(50) { r.short() } else { *r };
-    bodies.iter().map(|b| Body { load: b.load, records: b.records.iter().map(&mut record).collect() }).collect()
+    let record = |(r, short): (&Record, bool)| if short { r.short() } else { *r };
+    let records = |b: &Body| b.records.iter().zip(half(b.records.len())).map(record).collect();
+    bodies.iter().map(|b| Body { load: b.load, records: records(b) }).collect()
 }
 
 fn images() {
