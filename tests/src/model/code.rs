@@ -92,8 +92,8 @@ impl Code for Long<'_> {
     }
 }
 
-/// An entry with its table: for each halfword of the code range the number of the record that begins there, counted from 1;
-/// 0 where none does.
+/// An entry with its table: for each halfword of the code range eight times the number of the record that begins there, and
+/// its length; 0 where none does.
 struct Listed<'a> {
     entry: Entry<'a>,
     table: Vec<u32>,
@@ -101,11 +101,12 @@ struct Listed<'a> {
 
 impl Listed<'_> {
     #[inline]
-    fn at(&self, pc: u32) -> Option<[u8; 8]> {
+    fn at(&self, pc: u32) -> Option<Instruction> {
         let distance = pc.wrapping_sub(self.entry.load);
         // an odd distance is past every table
-        let number = *self.table.get(distance.rotate_right(1) as usize)?;
-        self.entry.body.get((number as usize).wrapping_sub(1)).copied()
+        let listed = *self.table.get(distance.rotate_right(1) as usize)?;
+        // the next address waits for the table alone
+        (listed != 0).then(|| Instruction::new(self.entry.body[listed as usize / 8], listed % 8))
     }
 }
 
@@ -116,14 +117,15 @@ impl Entry<'_> {
     }
 
     /// By a walk.
-    fn walked_to(&self, pc: u32) -> Option<[u8; 8]> {
+    fn walked_to(&self, pc: u32) -> Option<Instruction> {
         let distance = pc.wrapping_sub(self.load);
         let mut begins = 0;
         for record in self.body {
+            let length = length(record[0]);
             if begins >= distance {
-                return (begins == distance).then_some(*record);
+                return (begins == distance).then(|| Instruction::new(*record, length));
             }
-            begins += length(record[0]);
+            begins += length;
         }
         None
     }
@@ -131,9 +133,10 @@ impl Entry<'_> {
     fn table(&self) -> Vec<u32> {
         let mut table = vec![0; 2 * self.body.len()];
         let mut at = 0;
-        for (record, number) in self.body.iter().zip(1..) {
-            table[at] = number;
-            at += length(record[0]) as usize / 2;
+        for (record, number) in self.body.iter().zip(0..) {
+            let length = length(record[0]);
+            table[at] = 8 * number + length;
+            at += length as usize / 2;
         }
         table.truncate(at);
         table
@@ -159,7 +162,7 @@ impl<'a> Mixed<'a> {
 
     /// The first fetch in a body walks, as that of a single step does; the second one makes the table.
     #[cold]
-    fn search(&mut self, pc: u32) -> Option<[u8; 8]> {
+    fn search(&mut self, pc: u32) -> Option<Instruction> {
         let entries = word(self.image, 0) as usize;
         for k in 0..entries {
             let entry = Entry::new(self.image, k);
@@ -196,10 +199,9 @@ impl<'a> Mixed<'a> {
 impl Code for Mixed<'_> {
     #[inline]
     fn fetch(&mut self, pc: u32) -> Option<Instruction> {
-        let record = match self.latest.at(pc) {
-            Some(record) => record,
-            None => self.search(pc)?,
-        };
-        Some(Instruction::new(record, length(record[0])))
+        match self.latest.at(pc) {
+            None => self.search(pc),
+            found => found,
+        }
     }
 }
