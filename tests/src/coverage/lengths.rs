@@ -134,12 +134,13 @@ impl LengthCounts {
         let Some(k) = HANDING_ON.iter().position(|operation| *operation == instruction.operation) else {
             return;
         };
+        let handed_on = match instruction.operation {
+            Syscall | Trapv | Trapsv => own_trap.is_some(),
+            _ => done,
+        };
         let in_a11 = !matches!(instruction.operation, Svlcx | Bisr);
-        let traps = matches!(instruction.operation, Syscall | Trapv | Trapsv);
-        if if traps { own_trap.is_some() } else { done } {
-            assert!(!in_a11 || core.a[11] == step.pc.wrapping_add(2), "A11 after {instruction:?}");
-            self.handed_on[k] += 1;
-        }
+        assert!(!handed_on || !in_a11 || core.a[11] == step.pc + 2, "A11 after {instruction:?}");
+        self.handed_on[k] += handed_on as u64;
     }
 
     fn entries(&mut self, step: &Step) {

@@ -53,9 +53,9 @@ fn core_register(draw: &mut Draw, plan: &Plan, write: bool) -> u32 {
 }
 
 /// Where the operands are drawn from.
-pub struct Pen<'a> {
-    pub plan: &'a Plan,
-    pub sketch: &'a Sketch,
+struct Pen<'a> {
+    plan: &'a Plan,
+    sketch: &'a Sketch,
 }
 
 impl Pen<'_> {
@@ -100,10 +100,9 @@ impl Pen<'_> {
             Part::Calm => draw.pick(&Operation::ALL[Add as usize..=Mov as usize]),
             Part::Far => draw.pick(&[J, Jl, Jne, Jge, JltU, Loop]),
             Part::FarCall => Call,
-            // a handler goes back to the first record of all
-            Part::Given(record) if record.op == MovA as u8 => return Record { imm: main, ..record },
             Part::Given(record) => return record,
             Part::Back => return Record { op: J as u8, imm: main.wrapping_sub(at), ..Record::NOP },
+            Part::Home => return Record { op: MovA as u8, c: 11, a: 0, b: 16, imm: main },
         };
         let record = self.record(draw, op, at);
         match part {

@@ -16,6 +16,8 @@ pub enum Part {
     FarCall,
     /// A jump to the first record of all.
     Back,
+    /// A return address there.
+    Home,
 }
 
 /// A body: its parts, each short or long, and where they begin; the last address is the end.
@@ -128,9 +130,7 @@ fn vectors(draw: &mut Draw, share: Share, load: u32) -> Outline {
         let mut handler = vec![Part::Any; draw.below(4) as usize];
         // after 4/1 the next address has no record either
         match slot {
-            4 if draw.percent(90) => {
-                handler.push(Part::Given(Record { op: MovA as u8, c: 11, a: 0, b: 16, imm: 0 }));
-            }
+            4 if draw.percent(90) => handler.push(Part::Home),
             _ if draw.percent(75) => handler.push(share.skip(draw)),
             _ => {}
         }
