@@ -1,6 +1,7 @@
 //! Runs within long bodies of both lengths, and across bodies.
 
 use deqbaryn_tests::lengths::{half_short, relaid};
+use deqbaryn_tests::model::core::Range;
 use deqbaryn_tests::model::image::{build, Body, Record};
 use deqbaryn_tests::model::operations::Operation::*;
 use deqbaryn_tests::worked::{plain, record, Worked, LOAD};
@@ -44,6 +45,24 @@ fn a_step_goes_from_a_body_to_the_next_that_begins_there() {
     }
     assert_eq!(w.run(11), 11 << 32 | 0x1_0402);
     assert_eq!((w.core.a[11], w.core.d[1]), (LOAD + 28, 10));
+}
+
+#[test]
+fn a_run_through_sixteen_bodies() {
+    let mut bodies: Vec<Body> = Vec::new();
+    for k in 0..16 {
+        // an even number of short ones, so that the next body begins right after
+        let load = bodies.last().map_or(LOAD, Body::end);
+        bodies.push(additions(load, 7 + k, |n| n % 3 == 0 && n < 6 || k > 9 && n < 8));
+    }
+    let count = bodies.iter().map(|body| body.records.len() as u32).sum();
+    let mut w = machine(&bodies);
+    for n in [1, 6, 7, 8, 50, count - 1, count] {
+        run_as_steps(&mut w.clone(), n);
+    }
+    run_as_steps(&mut w, count);
+    assert_eq!((w.core.pc, w.core.d[1]), (bodies[15].end(), count));
+    w.trapped(4, 1);
 }
 
 #[test]
@@ -158,6 +177,44 @@ fn every_record_and_every_address_between_in_a_long_body() {
                 assert_eq!(run.run(1), 1 << 32 | 0x1_0402);
                 assert!(run.core == w.core);
             }
+        }
+    }
+}
+
+/// Additions of both lengths, with these code ranges to execute.
+fn protected(ranges: &[(u32, u32)]) -> (Worked, Vec<u32>) {
+    let body = half_short(&additions(LOAD, 60, |_| false));
+    let starts = body.addresses();
+    let mut w = machine(&[body]);
+    w.core.syscon = 2;
+    for (slot, (lower, upper)) in w.core.ranges[4..].iter_mut().zip(ranges) {
+        *slot = Range { lower: *lower, upper: *upper, mode: 0x80 };
+    }
+    (w, starts)
+}
+
+#[test]
+fn a_run_ends_where_its_code_range_does() {
+    let (_, starts) = protected(&[]);
+    for upper in LOAD + 1..=starts[59] {
+        // those whose first address is in the range
+        let count = starts.iter().filter(|start| **start < upper).count() as u32;
+        let (mut w, starts) = protected(&[(LOAD, upper)]);
+        run_as_steps(&mut w.clone(), count);
+        assert_eq!(w.run(count + 1), (count as u64 + 1) << 32 | 0x4_0102);
+        assert_eq!((w.core.d[1], w.core.a[11]), (count, starts[count as usize]), "{upper:X}");
+    }
+}
+
+#[test]
+fn a_run_goes_on_in_the_next_code_range() {
+    let (_, starts) = protected(&[]);
+    let end = starts[60];
+    for seam in LOAD + 1..end {
+        for ranges in [[(LOAD, seam), (seam, end)], [(seam, end), (LOAD, seam)]] {
+            let (mut w, _) = protected(&ranges);
+            run_as_steps(&mut w, 60);
+            assert_eq!((w.core.pc, w.core.d[1]), (end, 60), "{seam:X}");
         }
     }
 }

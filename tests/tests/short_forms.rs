@@ -121,6 +121,20 @@ fn other_traps_have_the_instruction_in_a11() {
     }
 }
 
+/// In a run, before the instruction after the one that lets it.
+#[test]
+fn an_interrupt_has_the_instruction_in_a11() {
+    for (enable, length) in forms(plain(Enable)) {
+        for (add, before) in forms(record(Add, 1, 1, 16, 1)) {
+            let mut w = Worked::new(&[add, enable, add, add]);
+            w.core.requests[4] = 0x6FF;
+            w.core.biv = BTV;
+            assert_eq!(w.run(3), 3 << 32 | 0x0401);
+            assert_eq!((w.core.a[11], w.core.d[1]), (LOAD + before + length, 1));
+        }
+    }
+}
+
 #[test]
 fn an_fcd_entry_finds_the_next_address() {
     for (mut w, length) in both(plain(Svlcx)) {
