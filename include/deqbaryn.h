@@ -62,9 +62,10 @@
 extern "C" {
 #endif
 
-/* The version of this interface. It goes up with every change of it; the interface
- * without deqbaryn_version, which had one window, counts as 1. */
-#define DEQBARYN_VERSION 2
+/* The version of this interface. It goes up with every change of it, and with what an
+ * image may hold; the interface without deqbaryn_version, which had one window, counts
+ * as 1, and that without short forms is 2. */
+#define DEQBARYN_VERSION 3
 
 #define DEQBARYN_CORE_BYTES 616
 
@@ -171,7 +172,11 @@ enum deqbaryn_at {
 #define DEQBARYN_MODE_WE 0x00000080u
 #define DEQBARYN_MODE_XE 0x00000080u
 
-/* The operation byte of a record: operation, c, a, b, immediate word. */
+/* The operation byte of a record: operation, c, a, b, immediate word. A record covers 4
+ * addresses. Its short form, with DEQBARYN_SHORT added to the operation byte, covers 2;
+ * it has 8 bytes in the image too, and does the same. */
+#define DEQBARYN_SHORT 128
+
 enum deqbaryn_operation {
     DEQBARYN_OP_NOP = 0, DEQBARYN_OP_ADD = 1, DEQBARYN_OP_SUB = 2, DEQBARYN_OP_RSUB = 3,
     DEQBARYN_OP_ADDX = 4, DEQBARYN_OP_ADDC = 5, DEQBARYN_OP_SUBX = 6,

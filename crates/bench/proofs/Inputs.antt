@@ -4,11 +4,12 @@ use mathlib.Core.Path.{refl}
 use Rattle.memory.specs.Word.{wordAt}
 use Rattle.areas.specs.Place.{placedAt, spotAt, placedIn}
 use Rattle.lists.specs.Walk.{walkOf, listsOf}
-use Rattle.image.specs.Table.{entryAt, entryHolds, entriesFrom, tableOf}
+use Rattle.image.specs.Lengths.{operationNumber, lengthOf, addressAfter}
+use Rattle.image.specs.Table.{entryAt, entryFits, entriesFrom, tableOf}
 use Rattle.image.specs.Records.{recordHolds, recordsFrom, imageOf}
 use Rattle.inputs.specs.Checks.{windowHolds, secondHolds, apartHolds, windowsVerdict, stepVerdict, startVerdict}
 use Rattle.bench.specs.Accepted.{PoolAccepted}
 
 pub pool-accepted : PoolAccepted
-unfolding wordAt placedAt spotAt placedIn walkOf listsOf entryAt entryHolds entriesFrom tableOf recordHolds recordsFrom imageOf windowHolds secondHolds apartHolds windowsVerdict stepVerdict startVerdict
+unfolding wordAt placedAt spotAt placedIn walkOf listsOf entryAt addressAfter lengthOf operationNumber entryFits entriesFrom tableOf recordHolds recordsFrom imageOf windowHolds secondHolds apartHolds windowsVerdict stepVerdict startVerdict
 pool-accepted = refl

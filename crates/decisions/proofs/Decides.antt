@@ -5,7 +5,7 @@ use native.Mathlib.Omega.{arith}
 use mathlib.Core.Path.{_≡_, refl}
 use mathlib.Core.Bool.{Bool, true, false, cond}
 use mathlib.Core.List.{List}
-use lib.ListN.{length}
+use lib.ListN.{getD, length}
 use lib.Dec.{eqb}
 use Rattle.memory.specs.Memory.{Memory}
 use Rattle.registers.specs.Registers.{pc, pcxi, icr}
@@ -21,6 +21,7 @@ use Rattle.interrupts.specs.Sources.{bestOf, takes}
 use Rattle.interrupts.proofs.Sources.{level-byte}
 use Rattle.image.specs.Rest.{restOf}
 use Rattle.image.specs.Fetch.{instructionAt, fetchOf}
+use Rattle.image.proofs.Addresses.{length-says}
 use Rattle.image.specs.declared.fetch.Instruction.{Instruction}
 use Rattle.image.specs.declared.fetch.Fetched.{Fetched}
 use Rattle.image.specs.declared.fetch.Fetched.the-variants.{Found, Nothing}
@@ -104,7 +105,7 @@ DecodedBy (Found i) = Decoded i
 module _ {img : List ℕ} (b : Bytes img) (pc : ℕ) (e : pc % 2 ≡ 0) where
   decoded-at : (at : ℕ) → Decoded (instructionAt img at pc)
   unfolding instructionAt
-  decoded-at at = record { imm = word-word b (at + 4); next = omega arith; even = omega arith }
+  decoded-at at = record { imm = word-word b (at + 4); next = omega arith; even = let l = length-says (getD img at 0) .even in omega arith }
 
   pub fetch-decoded : DecodedBy (fetchOf img pc)
   unfolding fetchOf

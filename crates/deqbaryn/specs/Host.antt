@@ -20,7 +20,7 @@ use Rattle.answers.specs.Answers.{permitsNumber, outcomeAnswer, wrongLength, ve
 
 -- the version of the host's interface
 abbrev pub version : ℕ
-version = 2
+version = 3
 
 abbrev pub isRecord : List ℕ → Bool
 isRecord bytes = eqb (length bytes) 616

@@ -25,7 +25,7 @@ ghost use Rattle.deqbaryn.specs.Calls.{AcceptedFollows};
 pub extern "C" fn deqbaryn_version() -> u32
     ensures { λ r. ⌜ r ≡ version ⌝ }
 {
-    2
+    3
 }
 
 // Whether the start is accepted, with PC, FCX and PCXI of the record.

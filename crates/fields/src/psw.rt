@@ -98,5 +98,5 @@ fn sticky(old: u32, now: bool) -> u32
     requires { ⌜ old ≤ 1 ⌝ }
     ensures { λ r. ⌜ (r ≡ 2 * number now + number (now || eqb old 1)) × (r ≤ 3) ⌝ }
 {
-    if now { 3 } else { old }
+    old | bit_of(now) * 3
 }

@@ -2,13 +2,10 @@
 -- Assumes nothing.
 use Prim.Native.Nat.{ℕ, _+_, _-_, _*_, _/_, _%_, _^_, _≤_, _<_}
 use native.Mathlib.Nat.{lt-of-not-le}
-use native.Mathlib.Decide.{decLe, ℕ-discrete}
+use native.Mathlib.Decide.{decLe}
 use native.Mathlib.Omega.{arith}
 use mathlib.Core.Path.{_≡_, refl}
-use borrow.Author.Tests.{le-leb, lt-leb, le-ltb, eq-eqb, ne-eqb}
-use lib.Dec.{ltb}
-use Rattle.image.specs.Rest.{begins, farOf, indexOf, IndexSays}
-use Rattle.image.specs.declared.table.Entry.{Entry}
+use Rattle.image.specs.Rest.{farOf, indexOf, IndexSays}
 
 -- an index below 2^30 is a distance that is a multiple of 4
 small : (far n : ℕ) → n ≤ 2 ^ 30 → far / 4 + far % 4 * 2 ^ 30 < n → (far % 4 ≡ 0) × (far / 4 < n)
@@ -44,26 +41,7 @@ pub index-wrapped : (from pc far : ℕ) → from < 2 ^ 32 → pc < 2 ^ 32 → fa
 unfolding indexOf
 index-wrapped from pc far h k l w = let e : far ≡ farOf from pc = omega arith in rw e (refl, λ n m b s. index-in from pc n h k m b s)
 
--- the index tests whether a record of the entry begins at pc
-module _ (e : Entry) (pc : ℕ) (f : e .load < 2 ^ 32) (p : pc < 2 ^ 32) (m : e .records ≤ 2 ^ 30) (b : e .load + 4 * e .records ≤ 2 ^ 32) where
-  -- from the load address on, at a multiple of 4
-  pub index-is : e .load ≤ pc → (pc - e .load) % 4 ≡ 0 → indexOf (e .load) pc ≡ (pc - e .load) / 4
-  unfolding indexOf
-  index-is l a = rw (above (e .load) pc p l) (omega arith)
-
-  pub index-begins : ltb (indexOf (e .load) pc) (e .records) ≡ begins e pc
-  index-begins = by (decLe (e .load) pc) (ℕ-discrete ((pc - e .load) % 4) 0)
-    where
-      past : (e .load ≤ pc → (pc - e .load) % 4 ≡ 0 → ⊥) → e .records ≤ indexOf (e .load) pc
-      past n = go (decLe (e .records) (indexOf (e .load) pc))
-        where
-          go : Dec (e .records ≤ indexOf (e .load) pc) → e .records ≤ indexOf (e .load) pc
-          go (yes h) = h
-          go (no h) =
-              let is = index-in (e .load) pc (e .records) f p m b (lt-of-not-le h) in
-              absurd (n (omega arith) (omega arith))
-
-      by : Dec (e .load ≤ pc) → Dec ((pc - e .load) % 4 ≡ 0) → ltb (indexOf (e .load) pc) (e .records) ≡ begins e pc
-      by (yes l) (yes a) = rw (le-leb (e .load) pc l, eq-eqb ((pc - e .load) % 4) 0 a, index-is l a)
-      by (yes l) (no a) = rw (le-leb (e .load) pc l, ne-eqb ((pc - e .load) % 4) 0 a) (le-ltb _ _ (past (λ _ z. a z)))
-      by (no l) a = rw (lt-leb (e .load) pc (lt-of-not-le l)) (le-ltb _ _ (past (λ h _. l h)))
+-- the index of a record that is so many after the one at an address
+pub index-is : (from j : ℕ) → from + 4 * j < 2 ^ 32 → indexOf from (from + 4 * j) ≡ j
+unfolding indexOf
+index-is from j h = rw (above from (from + 4 * j) h (omega arith)) (omega arith)

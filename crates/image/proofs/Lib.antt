@@ -3,5 +3,9 @@ pub mod Tests
 pub mod Tables
 pub mod Images
 pub mod Indices
+pub mod Addresses
+pub mod Walks
+pub mod Long
+pub mod Marking
 pub mod Rests
 pub mod Fetches

@@ -11,7 +11,7 @@ use mathlib.Core.List.{List}
 use borrow.Author.Tests.{ltb-false, le-ltb, eq-eqb, ne-eqb}
 use lib.ListN.{length}
 use lib.Dec.{ltb}
-use Rattle.image.specs.Table.{entriesOf, entryAt, bodiesOf, entryHolds, entriesFrom, tableOf}
+use Rattle.image.specs.Table.{entriesOf, entryAt, bodiesOf, rangeEnd, entryHolds, entriesFrom, tableOf}
 use Rattle.image.specs.Rules.{startOf, floorOf, EntryAt, Counted, TableRight, TableFault, uncounted, at-entry, left-over, TableSays}
 use Rattle.image.specs.declared.table.Entry.{Entry}
 use Rattle.image.specs.declared.table.TableCheck.{TableCheck}
@@ -31,22 +31,22 @@ module _ (k : ℕ) (img : List ℕ) (i start floor : ℕ) where
   unfolding entriesFrom
   entries-over d = rw (ne-eqb start (length img) d)
 
-  pub entries-on : entryHolds (entryAt img i) start floor (length img) ≡ true
-      → entriesFrom (suc k) img i start floor ≡ entriesFrom k img (i + 1) (start + 8 * entryAt img i .records) (entryAt img i .load + 4 * entryAt img i .records)
+  pub entries-on : entryHolds img (entryAt img i) start floor ≡ true
+      → entriesFrom (suc k) img i start floor ≡ entriesFrom k img (i + 1) (start + 8 * entryAt img i .records) (rangeEnd img (entryAt img i))
   unfolding entriesFrom
   entries-on t = rw t
 
-  pub entries-fault : entryHolds (entryAt img i) start floor (length img) ≡ false → entriesFrom (suc k) img i start floor ≡ Fault (i + 1)
+  pub entries-fault : entryHolds img (entryAt img i) start floor ≡ false → entriesFrom (suc k) img i start floor ≡ Fault (i + 1)
   unfolding entriesFrom
   entries-fault t = rw t
 
 -- the same with n entries in all, as the loop counts them
 module _ (n : ℕ) (img : List ℕ) (i start floor : ℕ) (e : Entry) (is : e ≡ entryAt img i) where
-  pub turn-on : i < n → entryHolds e start floor (length img) ≡ true
-      → entriesFrom (n - (i + 1)) img (i + 1) (start + 8 * e .records) (e .load + 4 * e .records) ≡ entriesFrom (n - i) img i start floor
+  pub turn-on : i < n → entryHolds img e start floor ≡ true
+      → entriesFrom (n - (i + 1)) img (i + 1) (start + 8 * e .records) (rangeEnd img e) ≡ entriesFrom (n - i) img i start floor
   turn-on h t = let j : n - i ≡ suc (n - (i + 1)) = omega arith in rw (j, is) (sym (entries-on (n - (i + 1)) img i start floor (rw is at t)))
 
-  pub turn-fault : i < n → entryHolds e start floor (length img) ≡ false → Fault (i + 1) ≡ entriesFrom (n - i) img i start floor
+  pub turn-fault : i < n → entryHolds img e start floor ≡ false → Fault (i + 1) ≡ entriesFrom (n - i) img i start floor
   turn-fault h t = let j : n - i ≡ suc (n - (i + 1)) = omega arith in rw j (sym (entries-fault (n - (i + 1)) img i start floor (rw is at t)))
 
 module _ (n : ℕ) (img : List ℕ) (i start floor : ℕ) (h : i ≤ n) (k : n ≤ i) where
@@ -77,20 +77,20 @@ module _ (img : List ℕ) (g : Counted img) where
       go : Dec (startOf img i ≡ length img) → TableSays img (entriesFrom 0 img i (startOf img i) (floorOf img i))
       go (yes p) = rw (entries-end 0 img i (startOf img i) (floorOf img i) p) (record { counted = g; entries = all; ends = ap (startOf img) (sym n) ∙ p })
       go (no d) = rw (entries-over 0 img i (startOf img i) (floorOf img i) d) (left-over g all (λ p. d (ap (startOf img) n ∙ p)) n)
-  entries-say (suc k) i e b = go (entryHolds (entryAt img i) (startOf img i) (floorOf img i) (length img)) refl (entries-say k (suc i))
+  entries-say (suc k) i e b = go (entryHolds img (entryAt img i) (startOf img i) (floorOf img i)) refl (entries-say k (suc i))
     where
       more : startOf img i + 8 * entryAt img i .records ≡ startOf img (suc i)
       more = omega arith
 
-      go : (t : Bool) → entryHolds (entryAt img i) (startOf img i) (floorOf img i) (length img) ≡ t
+      go : (t : Bool) → entryHolds img (entryAt img i) (startOf img i) (floorOf img i) ≡ t
           → (suc i + k ≡ entriesOf img → ((j : ℕ) → j < suc i → EntryAt img j) → TableSays img (entriesFrom k img (suc i) (startOf img (suc i)) (floorOf img (suc i))))
           → TableSays img (entriesFrom (suc k) img i (startOf img i) (floorOf img i))
       go true t r =
           rw (entries-on k img i (startOf img i) (floorOf img i) t, more, add-one)
-          (r (omega arith) (before-more i b (entry-right (entryAt img i) (startOf img i) (floorOf img i) (length img) t)))
+          (r (omega arith) (before-more i b (entry-right img (entryAt img i) (startOf img i) (floorOf img i) t)))
       go false t r =
           rw (entries-fault k img i (startOf img i) (floorOf img i) t)
-          (at-entry g i (omega arith) b (λ h. never (sym (right-entry (entryAt img i) (startOf img i) (floorOf img i) (length img) h) ∙ t)) refl)
+          (at-entry g i (omega arith) b (λ h. never (sym (right-entry img (entryAt img i) (startOf img i) (floorOf img i) h) ∙ t)) refl)
 
 -- ---- the whole table
 module _ (img : List ℕ) where

@@ -1,51 +1,82 @@
 -- A test that is a conjunction, and what it tests.
 -- Assumes nothing.
-use Prim.Native.Nat.{ℕ, _+_, _*_, _%_, _≤_}
+use Prim.Native.Nat.{ℕ, _+_, _*_, _/_, _%_, _≤_, _<_}
+use native.Mathlib.Nat.{lt-of-not-le}
+use native.Mathlib.Decide.{decLe}
+use native.Mathlib.Omega.{arith}
 use mathlib.Core.Path.{_≡_, refl, sym, ap, _∙_}
-use mathlib.Core.Bool.{Bool, true, false, not, _||_}
+use mathlib.Core.Bool.{Bool, true, false, not, _&&_, _||_}
 use mathlib.Core.Logic.{⊎-elim}
+use mathlib.Core.List.{List}
 use Rattle.words.proofs.Truth.{never, both-true, either-true}
-use borrow.Author.Tests.{leb-true, eqb-true, ltb-true, lt-ltb, le-leb, eq-eqb}
-use lib.ListN.{length}
-use lib.Dec.{leb}
+use borrow.Author.Tests.{leb-true, eqb-true, ltb-true, lt-ltb, le-leb, lt-leb, eq-eqb, ne-eqb}
+use lib.ListN.{length, getD}
+use lib.Dec.{leb, eqb}
 use Rattle.operations.specs.Operations.{operations, operationOf, compares}
-use Rattle.image.specs.Table.{entryHolds}
-use Rattle.image.specs.Records.{recordHolds}
+use Rattle.image.specs.Table.{rangeEnd, entryFits, entryHolds}
+use Rattle.memory.specs.Word.{wordAt}
+use Rattle.image.specs.Lengths.{isShort, operationNumber}
+use Rattle.image.specs.Records.{recordHolds, recordAt}
 use Rattle.image.specs.Rules.{EntryRight, RecordRight}
 use Rattle.image.specs.declared.table.Entry.{Entry}
+use Rattle.image.proofs.Addresses.{byte-number}
 
-module _ (e : Entry) (start floor len : ℕ) where
-  pub entry-right : entryHolds e start floor len ≡ true → EntryRight e start floor len
-  unfolding entryHolds
+-- what an entry's words alone tell
+pub record Fits (e : Entry) (start len : ℕ) : Type 0 where
+  pub aligned : e .load % 4 ≡ 0
+  pub some : 1 ≤ e .records
+  pub most : e .records ≤ 0x1_0000
+  pub begins : e .offset ≡ start
+  pub ends : e .offset + 8 * e .records ≤ len
+
+pub fits : (e : Entry) (start len : ℕ) → entryFits e start len ≡ true → Fits e start len
+unfolding entryFits
+fits e start len h =
+    let p5 = both-true _ _ h in
+    let p4 = both-true _ _ (p5 .0) in
+    let p3 = both-true _ _ (p4 .0) in
+    let p2 = both-true _ _ (p3 .0) in
+    record {
+      aligned = eqb-true (e .load % 4) 0 (p2 .0);
+      some = leb-true 1 (e .records) (p2 .1);
+      most = leb-true (e .records) 0x1_0000 (p3 .1);
+      begins = eqb-true (e .offset) start (p4 .1);
+      ends = leb-true (e .offset + 8 * e .records) len (p5 .1);
+    }
+
+module _ (img : List ℕ) (e : Entry) (start floor : ℕ) where
+  pub entry-right : entryHolds img e start floor ≡ true → EntryRight img e start floor
   entry-right h =
-      let p7 = both-true _ _ h in
-      let p6 = both-true _ _ (p7 .0) in
-      let p5 = both-true _ _ (p6 .0) in
-      let p4 = both-true _ _ (p5 .0) in
-      let p3 = both-true _ _ (p4 .0) in
-      let p2 = both-true _ _ (p3 .0) in
+      let q = both-true (entryFits e start (length img) && leb floor (e .load)) (leb (rangeEnd img e) 0xE000_0000) h in
+      let p = both-true (entryFits e start (length img)) (leb floor (e .load)) (q .0) in
+      let f = fits e start (length img) (p .0) in
       record {
-        aligned = eqb-true (e .load % 4) 0 (p2 .0);
-        some = leb-true 1 (e .records) (p2 .1);
-        most = leb-true (e .records) 0x1_0000 (p3 .1);
-        begins = eqb-true (e .offset) start (p4 .1);
-        ascends = leb-true floor (e .load) (p5 .1);
-        below = leb-true (e .load + 4 * e .records) 0xE000_0000 (p6 .1);
-        ends = leb-true (e .offset + 8 * e .records) len (p7 .1);
+        aligned = f .aligned;
+        some = f .some;
+        most = f .most;
+        begins = f .begins;
+        ascends = leb-true floor (e .load) (p .1);
+        below = leb-true (rangeEnd img e) 0xE000_0000 (q .1);
+        ends = f .ends;
       }
 
-  pub right-entry : EntryRight e start floor len → entryHolds e start floor len ≡ true
-  unfolding entryHolds
+  pub right-entry : EntryRight img e start floor → entryHolds img e start floor ≡ true
+  unfolding entryFits
   right-entry r =
-      rw (
+      rw
+      (
         eq-eqb (e .load % 4) 0 (r .aligned),
         le-leb 1 (e .records) (r .some),
         le-leb (e .records) 0x1_0000 (r .most),
         eq-eqb (e .offset) start (r .begins),
+        le-leb (e .offset + 8 * e .records) (length img) (r .ends),
         le-leb floor (e .load) (r .ascends),
-        le-leb (e .load + 4 * e .records) 0xE000_0000 (r .below),
-        le-leb (e .offset + 8 * e .records) len (r .ends),
+        le-leb (rangeEnd img e) 0xE000_0000 (r .below),
       )
+
+-- test by test, in the code's order
+pub holds-by : (img : List ℕ) (e : Entry) (start floor : ℕ) (x y z : Bool) → entryFits e start (length img) ≡ x → leb floor (e .load) ≡ y → leb (rangeEnd img e) 0xE000_0000 ≡ z → entryHolds img e start floor ≡ (x && y && z)
+holds-by img e start floor x y z f a b = rw (f, a, b)
 
 module _ (op c a b : ℕ) where
   compared : (leb b 15 || not (compares (operationOf op))) ≡ true → compares (operationOf op) ≡ true → b ≤ 15
@@ -84,3 +115,47 @@ module _ (op c a b : ℕ) where
   unfolding recordHolds
   right-record r =
       rw (lt-ltb op (length operations) (r .operation), le-leb c 15 (r .result), le-leb a 15 (r .first), le-leb b 16 (r .second)) (second-true r)
+
+-- ---- a record's first word
+module _ (w : ℕ) where
+  -- its operation, as the code computes it
+  pub word-number : w % 128 ≡ operationNumber (w % 256)
+  word-number = let h : w % 256 < 256 = omega arith in let e : w % 128 ≡ w % 256 % 128 = omega arith in e ∙ byte-number (w % 256) h
+
+  pub word-form : eqb (w / 128 % 2) 0 ≡ not (isShort (w % 256))
+  word-form = by (decLe 128 (w % 256))
+    where
+      by : Dec (128 ≤ w % 256) → eqb (w / 128 % 2) 0 ≡ not (isShort (w % 256))
+      by (yes h) = rw (le-leb 128 (w % 256) h) (ne-eqb (w / 128 % 2) 0 (λ e. omega arith))
+      by (no h) = let l = lt-of-not-le h in rw (lt-leb 128 (w % 256) l) (eq-eqb (w / 128 % 2) 0 (omega arith))
+
+module _ (x y z t : ℕ) (hx : x < 256) (hy : y < 256) (hz : z < 256) where
+  byte-0 : (x + 0x100 * y + 0x1_0000 * z + 0x100_0000 * t) % 256 ≡ x
+  byte-0 = omega arith
+
+  byte-1 : (x + 0x100 * y + 0x1_0000 * z + 0x100_0000 * t) / 256 % 256 ≡ y
+  byte-1 = omega arith
+
+  byte-2 : (x + 0x100 * y + 0x1_0000 * z + 0x100_0000 * t) / 65536 % 256 ≡ z
+  byte-2 = omega arith
+
+  byte-3 : (x + 0x100 * y + 0x1_0000 * z + 0x100_0000 * t) / 16777216 ≡ t
+  byte-3 = omega arith
+
+-- the record's bytes are those of its first word
+module _ (img : List ℕ) (at w : ℕ) (b : (j : ℕ) → getD img j 0 < 256) (e : w ≡ wordAt img at) where
+  pub word-record : recordHolds (operationNumber (w % 256)) (w / 256 % 256) (w / 65536 % 256) (w / 16777216) ≡ recordAt img at
+  unfolding wordAt
+  word-record =
+      rw
+      (
+        e,
+        byte-0 (getD img at 0) (getD img (at + 1) 0) (getD img (at + 2) 0) (getD img (at + 3) 0) (b at) (b (at + 1)) (b (at + 2)),
+        byte-1 (getD img at 0) (getD img (at + 1) 0) (getD img (at + 2) 0) (getD img (at + 3) 0) (b at) (b (at + 1)) (b (at + 2)),
+        byte-2 (getD img at 0) (getD img (at + 1) 0) (getD img (at + 2) 0) (getD img (at + 3) 0) (b at) (b (at + 1)) (b (at + 2)),
+        byte-3 (getD img at 0) (getD img (at + 1) 0) (getD img (at + 2) 0) (getD img (at + 3) 0) (b at) (b (at + 1)) (b (at + 2)),
+      )
+
+  pub word-short : isShort (w % 256) ≡ isShort (getD img at 0)
+  unfolding wordAt
+  word-short = rw (e, byte-0 (getD img at 0) (getD img (at + 1) 0) (getD img (at + 2) 0) (getD img (at + 3) 0) (b at) (b (at + 1)) (b (at + 2)))

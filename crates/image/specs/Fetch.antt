@@ -7,6 +7,7 @@ use lib.ListN.{getD}
 use lib.Dec.{eqb}
 use Rattle.memory.specs.Word.{wordAt}
 use Rattle.operations.specs.Operations.{operationOf, compares}
+use Rattle.image.specs.Lengths.{operationNumber, lengthAt}
 use Rattle.image.specs.Table.{entryAt}
 use Rattle.image.specs.Rest.{restOf, Begins}
 use Rattle.image.specs.declared.fetch.Instruction.{Instruction}
@@ -14,16 +15,20 @@ use Rattle.image.specs.declared.fetch.Rest.{Rest}
 use Rattle.image.specs.declared.fetch.Fetched.{Fetched}
 use Rattle.image.specs.declared.fetch.Fetched.the-variants.{Found, Nothing}
 
--- operation, c, a, b, immediate word; the next instruction stands 4 addresses on
+-- the address after the record at byte `at`, which begins at pc: its own length on
+abbrev pub nextAfter : List ℕ → ℕ → ℕ → ℕ
+nextAfter img at pc = (pc + lengthAt img at) % 2 ^ 32
+
+-- operation, c, a, b, immediate word, and the address of the next instruction
 unfoldable pub instructionAt : List ℕ → ℕ → ℕ → Instruction
 instructionAt img at pc =
     record {
-      op = operationOf (getD img at 0);
+      op = operationOf (operationNumber (getD img at 0));
       c = getD img (at + 1) 0;
       a = getD img (at + 2) 0;
       b = getD img (at + 3) 0;
       imm = wordAt img (at + 4);
-      next = (pc + 4) % 2 ^ 32;
+      next = nextAfter img at pc;
     }
 
 -- the first of the records from pc on, if there is one

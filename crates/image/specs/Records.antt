@@ -1,4 +1,4 @@
--- The records: 8 bytes each. A record covers 4 addresses.
+-- The records: 8 bytes each.
 use Prim.Native.Nat.{ℕ, zero, suc, _+_, _-_, _/_}
 use mathlib.Core.Path.{_≡_}
 use mathlib.Core.Bool.{Bool, cond, not, _&&_, _||_}
@@ -6,6 +6,7 @@ use mathlib.Core.List.{List}
 use lib.ListN.{length, getD}
 use lib.Dec.{ltb, leb}
 use Rattle.operations.specs.Operations.{operations, operationOf, compares}
+use Rattle.image.specs.Lengths.{operationNumber}
 use Rattle.image.specs.Table.{bodiesOf, tableOf}
 use Rattle.image.specs.declared.table.TableCheck.{TableCheck}
 use Rattle.image.specs.declared.table.TableCheck.the-variants as table
@@ -17,9 +18,9 @@ unfoldable pub recordHolds : ℕ → ℕ → ℕ → ℕ → Bool
 recordHolds op c a b =
     ltb op (length operations) && leb c 15 && leb a 15 && leb b 16 && (leb b 15 || not (compares (operationOf op)))
 
--- the record at byte `at`
+-- the record at byte `at`: of a short form the operation byte less 128 is checked
 abbrev pub recordAt : List ℕ → ℕ → Bool
-recordAt img at = recordHolds (getD img at 0) (getD img (at + 1) 0) (getD img (at + 2) 0) (getD img (at + 3) 0)
+recordAt img at = recordHolds (operationNumber (getD img at 0)) (getD img (at + 1) 0) (getD img (at + 2) 0) (getD img (at + 3) 0)
 
 -- n records from the one with index k on, which stands at byte `at`
 unfoldable pub recordsFrom : ℕ → List ℕ → ℕ → ℕ → ImageCheck

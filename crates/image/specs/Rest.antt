@@ -1,28 +1,31 @@
 -- The records of a body from a PC on.
 use Prim.Native.Nat.{ℕ, zero, suc, _+_, _-_, _*_, _/_, _%_, _^_, _≤_, _<_}
 use mathlib.Core.Path.{_≡_}
-use mathlib.Core.Bool.{Bool, cond, _&&_}
+use mathlib.Core.Bool.{cond}
 use mathlib.Core.List.{List}
-use lib.Dec.{ltb, leb, eqb}
+use lib.Dec.{eqb}
+use Rattle.image.specs.Lengths.{lengthAt, addressAfter}
 use Rattle.image.specs.Table.{entriesOf, entryAt}
 use Rattle.image.specs.declared.table.Entry.{Entry}
 use Rattle.image.specs.declared.fetch.Rest.{Rest}
+use Rattle.image.specs.declared.fetch.InBody.{InBody}
 
 abbrev pub rest : ℕ → ℕ → Rest
 rest n at = record { records = n; at = at }
 
--- a record of the entry begins at pc: one does at each fourth address of its code range
-abbrev pub begins : Entry → ℕ → Bool
-begins e pc = leb (e .load) pc && eqb ((pc - e .load) % 4) 0 && ltb ((pc - e .load) / 4) (e .records)
+-- n records from the one at byte `at` on, which begins at `from`: walked, each by its own length, to the one that begins at pc
+unfoldable pub bodyWalk : ℕ → List ℕ → ℕ → ℕ → ℕ → Rest
+bodyWalk zero img at from pc = rest 0 0
+bodyWalk (suc n) img at from pc = cond (eqb from pc) (rest (suc n) at) (bodyWalk n img (at + 8) (from + lengthAt img at) pc)
 
 -- of the entry's body, from the record at pc on
-abbrev pub restIn : Entry → ℕ → Rest
-restIn e pc = rest (e .records - (pc - e .load) / 4) (e .offset + 8 * ((pc - e .load) / 4))
+abbrev pub restIn : List ℕ → Entry → ℕ → Rest
+restIn img e pc = bodyWalk (e .records) img (e .offset) (e .load) pc
 
 -- k entries from place i on; none where no record begins at pc
 unfoldable pub restFrom : ℕ → List ℕ → ℕ → ℕ → Rest
 restFrom zero img i pc = rest 0 0
-restFrom (suc k) img i pc = cond (begins (entryAt img i) pc) (restIn (entryAt img i) pc) (restFrom k img (i + 1) pc)
+restFrom (suc k) img i pc = let r = restIn img (entryAt img i) pc in cond (eqb (r .records) 0) (restFrom k img (i + 1) pc) r
 
 unfoldable pub restOf : List ℕ → ℕ → Rest
 restOf img pc = restFrom (entriesOf img) img 0 pc
@@ -31,14 +34,22 @@ restOf img pc = restFrom (entriesOf img) img 0 pc
 abbrev pub farOf : ℕ → ℕ → ℕ
 farOf from pc = (pc + (2 ^ 32 - from)) % 2 ^ 32
 
--- that distance in records; its two low bits count highest, so that a pc within a record, or below the address, is past every body
+-- that distance in records of 4 addresses; its two low bits count highest, so that a pc within a record, or below the address, is past every body
 unfoldable pub indexOf : ℕ → ℕ → ℕ
 indexOf from pc = farOf from pc / 4 + farOf from pc % 4 * 2 ^ 30
 
--- of n records from an address on, one that the index counts begins at pc
+-- of n records of 4 addresses from an address on, one that the index counts begins at pc
 abbrev pub IndexSays : ℕ → ℕ → ℕ → Type 0
 IndexSays from pc k = (n : ℕ) → n ≤ 2 ^ 30 → from + 4 * n ≤ 2 ^ 32 → k < n → pc ≡ from + 4 * k
 
--- the record with index j of the body of entry i, both from 0, begins at pc
+-- where the record with index j of the body of entry i begins, both from 0
+abbrev pub recordAddress : List ℕ → ℕ → ℕ → ℕ
+recordAddress img i j = addressAfter j img (entryAt img i .offset) (entryAt img i .load)
+
+-- it begins at pc
 abbrev pub Begins : List ℕ → ℕ → ℕ → ℕ → Type 0
-Begins img pc i j = (i < entriesOf img) × (j < entryAt img i .records) × (pc ≡ entryAt img i .load + 4 * j)
+Begins img pc i j = (i < entriesOf img) × (j < entryAt img i .records) × (pc ≡ recordAddress img i j)
+
+-- of records from pc on, the entry whose body they are in
+abbrev pub InEntry : List ℕ → ℕ → InBody → Type 0
+InEntry img pc b = 0 < b .rest .records → Begins img pc (b .entry) (entryAt img (b .entry) .records - b .rest .records)

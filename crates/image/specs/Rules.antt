@@ -5,7 +5,8 @@ use mathlib.Core.Bool.{true}
 use mathlib.Core.List.{List}
 use lib.ListN.{length, getD}
 use Rattle.operations.specs.Operations.{operations, operationOf, compares}
-use Rattle.image.specs.Table.{entriesOf, entryAt, bodiesOf}
+use Rattle.image.specs.Lengths.{operationNumber}
+use Rattle.image.specs.Table.{entriesOf, entryAt, bodiesOf, rangeEnd}
 use Rattle.image.specs.Records.{totalOf}
 use Rattle.image.specs.declared.table.Entry.{Entry}
 use Rattle.image.specs.declared.table.TableCheck.{TableCheck}
@@ -25,20 +26,20 @@ startOf img i = bodiesOf img + 8 * recordsBefore img i
 -- where the code range before entry i ends
 abbrev pub floorOf : List ℕ → ℕ → ℕ
 floorOf img zero = 0
-floorOf img (suc i) = entryAt img i .load + 4 * entryAt img i .records
+floorOf img (suc i) = rangeEnd img (entryAt img i)
 
 -- an entry e whose body has to begin at `start` and whose code range not below `floor`
-pub record EntryRight (e : Entry) (start floor len : ℕ) : Type 0 where
+pub record EntryRight (img : List ℕ) (e : Entry) (start floor : ℕ) : Type 0 where
   pub aligned : e .load % 4 ≡ 0
   pub some : 1 ≤ e .records
   pub most : e .records ≤ 0x1_0000
   pub begins : e .offset ≡ start
   pub ascends : floor ≤ e .load
-  pub below : e .load + 4 * e .records ≤ 0xE000_0000
-  pub ends : e .offset + 8 * e .records ≤ len
+  pub below : rangeEnd img e ≤ 0xE000_0000
+  pub ends : e .offset + 8 * e .records ≤ length img
 
 abbrev pub EntryAt : List ℕ → ℕ → Type 0
-EntryAt img i = EntryRight (entryAt img i) (startOf img i) (floorOf img i) (length img)
+EntryAt img i = EntryRight img (entryAt img i) (startOf img i) (floorOf img i)
 
 -- the count is 1 to 16, and the table is not cut short
 pub record Counted (img : List ℕ) : Type 0 where
@@ -63,7 +64,7 @@ abbrev pub TableSays : List ℕ → TableCheck → Type 0
 TableSays img table.Holds = TableRight img
 TableSays img (table.Fault p) = TableFault img p
 
--- a record's bytes are in their bounds; the operations that compare two registers refuse b = 16
+-- a record's operation by its number, and its other bytes, are in their bounds; the operations that compare two registers refuse b = 16
 pub record RecordRight (op c a b : ℕ) : Type 0 where
   pub operation : op < length operations
   pub result : c ≤ 15
@@ -75,7 +76,7 @@ pub record RecordRight (op c a b : ℕ) : Type 0 where
 abbrev pub RecordAt : List ℕ → ℕ → Type 0
 RecordAt img k =
     let at = bodiesOf img + 8 * k in
-    RecordRight (getD img at 0) (getD img (at + 1) 0) (getD img (at + 2) 0) (getD img (at + 3) 0)
+    RecordRight (operationNumber (getD img at 0)) (getD img (at + 1) 0) (getD img (at + 2) 0) (getD img (at + 3) 0)
 
 -- rules 2 and 3
 pub record ImageRight (img : List ℕ) : Type 0 where

@@ -1,15 +1,20 @@
 // The records: 8 bytes each, operation, c, a, b and the immediate word.
 
+use crate::lengths::operation_number;
 use crate::table::TableCheck;
 use crate::table::check_table;
 use memory::word_at;
 use operations::is_compare;
 use operations::is_operation;
 ghost use mathlib.Core.Path.{_≡_};
-ghost use Prim.Native.Nat.{_+_, _*_, _<_};
+ghost use mathlib.Core.Bool.{true, not};
+ghost use mathlib.Core.List.{List};
+ghost use Prim.Native.Nat.{ℕ, _+_, _*_, _/_, _%_, _<_};
+ghost use Rattle.image.specs.Lengths.{isShort, operationNumber};
 ghost use Rattle.image.specs.Table.{bodiesOf, tableOf};
-ghost use Rattle.image.specs.Records.{recordHolds, recordsFrom, totalOf, imageOf};
+ghost use Rattle.image.specs.Records.{recordHolds, recordsFrom, totalOf, imageOf, ImageHolds};
 ghost use Rattle.image.specs.Rules.{ImageSays};
+ghost use Rattle.image.specs.Marks.{longOnly, longIn};
 ghost use Rattle.words.specs.Exactly.{Exactly};
 
 // Rules 2 and 3: the entry at fault, or the record at fault by its index over all bodies.
@@ -19,39 +24,63 @@ pub enum ImageCheck {
     Record(u32),
 }
 
-// Whether a record's bytes are in their bounds. JEQ to JGE.U take no immediate.
-fn record_holds(op: u8, c: u8, a: u8, b: u8) -> bool
+// Whether a record's operation, by its number, and its other bytes are in their bounds. JEQ to JGE.U take no immediate. There is no branch, so that several records are tried at a time.
+fn record_holds(op: u32, c: u32, a: u32, b: u32) -> bool
     ensures { λ r. ⌜ r ≡ recordHolds op c a b ⌝ }
 {
-    if !is_operation(op) {
-        return false;
-    }
-    if 15 < c {
-        return false;
-    }
-    if 15 < a {
-        return false;
-    }
-    if b < 16 {
-        return true;
-    }
-    if 16 < b {
-        return false;
-    }
-    !is_compare(op)
+    is_operation(op) & (c <= 15) & (a <= 15) & (b <= 16) & ((b <= 15) | !is_compare(op))
 }
 
-// The image: its table, then each record.
-pub fn check_image(image: &[u8]) -> ImageCheck
-    ensures { λ r. ⌜ (r ≡ imageOf (now (image .entry))) × Exactly (ImageSays (now (image .entry))) r ⌝ }
+// What a pass over all records finds: that each holds, and whether none is a short form.
+struct Scan {
+    hold: bool,
+    long: bool,
+}
+
+// Whether the record with that first word holds.
+fn word_holds(w: u32) -> bool
+    ensures { λ r. ⌜ r ≡ recordHolds (operationNumber (w % 256)) (w / 256 % 256) (w / 65536 % 256) (w / 16777216) ⌝ }
 {
-    match check_table(image) {
-        TableCheck::Fault(p) => ImageCheck::Table(p),
-        TableCheck::Holds => check_records(image),
+    record_holds(
+        w % 0x80,
+        w / 0x100 % 0x100,
+        w / 0x1_0000 % 0x100,
+        w / 0x100_0000,
+    )
+}
+
+// Whether it is that of a long record.
+fn word_long(w: u32) -> bool
+    ensures { λ r. ⌜ r ≡ not (isShort (w % 256)) ⌝ }
+{
+    w / 0x80 % 2 == 0
+}
+
+// One pass over all records.
+fn scan_all(image: &[u8]) -> Scan
+    requires { ⌜ tableOf (now image) ≡ TableCheck.Holds ⌝ }
+    ensures { λ r. ⌜ ((r .hold ≡ true) → recordsFrom (totalOf (now (image .entry))) (now (image .entry)) (bodiesOf (now (image .entry))) 0 ≡ ImageCheck.Holds) × (r .long ≡ longOnly (now (image .entry))) ⌝ }
+{
+    let n = word_at(image, 0);
+    let from = 4 + 12 * n as usize;
+    let count = (image.len() - from) / 8;
+    let mut hold = true;
+    let mut long = true;
+    let mut k: usize = 0;
+    while k < count {
+        let w = word_at(image, from + 8 * k);
+        hold = hold & word_holds(w);
+        long = long & word_long(w);
+        k += 1;
+    }
+    Scan {
+        hold: hold,
+        long: long,
     }
 }
 
-fn check_records(image: &[u8]) -> ImageCheck
+// The first record at fault, if one is.
+fn first_fault(image: &[u8]) -> ImageCheck
     requires { ⌜ tableOf (now image) ≡ TableCheck.Holds ⌝ }
     ensures { λ r. ⌜ r ≡ recordsFrom (totalOf (now (image .entry))) (now (image .entry)) (bodiesOf (now (image .entry))) 0 ⌝ }
 {
@@ -59,11 +88,74 @@ fn check_records(image: &[u8]) -> ImageCheck
     let mut at = 4 + 12 * n as usize;
     let mut k: u32 = 0;
     while at < image.len() {
-        if !record_holds(image[at], image[at + 1], image[at + 2], image[at + 3]) {
+        if !word_holds(word_at(image, at)) {
             return ImageCheck::Record(k);
         }
         at += 8;
         k += 1;
     }
     ImageCheck::Holds
+}
+
+// The rules' answer, and whether the image has no short form.
+pub struct ImageScan {
+    pub check: ImageCheck,
+    pub long: bool,
+}
+
+// The records, after the table. The first at fault is looked for only where one is.
+fn scan_records(image: &[u8]) -> ImageScan
+    requires { ⌜ tableOf (now image) ≡ TableCheck.Holds ⌝ }
+    ensures { λ r. ⌜ (r .check ≡ recordsFrom (totalOf (now (image .entry))) (now (image .entry)) (bodiesOf (now (image .entry))) 0) × (r .long ≡ longIn (now (image .entry)) (r .check)) ⌝ }
+{
+    let s = scan_all(image);
+    if s.hold {
+        return ImageScan {
+            check: ImageCheck::Holds,
+            long: s.long,
+        };
+    }
+    let check = first_fault(image);
+    ImageScan {
+        check: check,
+        long: long_in(check, s.long),
+    }
+}
+
+// Of an image that is refused nothing is told.
+fn long_in(check: ImageCheck, long: bool) -> bool
+    ensures { λ r. ⌜ ((img : List ℕ) → long ≡ longOnly img → r ≡ longIn img check) ⌝ }
+{
+    match check {
+        ImageCheck::Holds => long,
+        ImageCheck::Table(_) => false,
+        ImageCheck::Record(_) => false,
+    }
+}
+
+// The image: its table, then each record.
+pub fn scan_image(image: &[u8]) -> ImageScan
+    ensures { λ r. ⌜ (r .check ≡ imageOf (now (image .entry))) × Exactly (ImageSays (now (image .entry))) (r .check) × (r .long ≡ longIn (now (image .entry)) (r .check)) ⌝ }
+{
+    match check_table(image) {
+        TableCheck::Fault(p) => ImageScan {
+            check: ImageCheck::Table(p),
+            long: false,
+        },
+        TableCheck::Holds => scan_records(image),
+    }
+}
+
+pub fn check_image(image: &[u8]) -> ImageCheck
+    ensures { λ r. ⌜ (r ≡ imageOf (now (image .entry))) × Exactly (ImageSays (now (image .entry))) r ⌝ }
+{
+    scan_image(image).check
+}
+
+// Whether an image that rules 2 and 3 accept has no short form.
+pub fn is_long(image: &[u8]) -> bool
+    requires { ⌜ ImageHolds (now image) ⌝ }
+    ensures { λ r. ⌜ r ≡ longOnly (now (image .entry)) ⌝ }
+{
+    scan_all(image).long
 }

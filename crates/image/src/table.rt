@@ -1,10 +1,12 @@
 // The table of contents: a count, then entries of three words.
 
+use crate::lengths::address_after;
 use memory::word_at;
 ghost use mathlib.Core.Path.{_≡_};
 ghost use Prim.Native.Nat.{_+_, _*_, _≤_, _<_};
 ghost use lib.ListN.{length};
-ghost use Rattle.image.specs.Table.{entryAt, entryHolds, entriesFrom, tableOf};
+ghost use lib.Dec.{leb};
+ghost use Rattle.image.specs.Table.{entryAt, entryFits, rangeEnd, entriesFrom, tableOf};
 ghost use Rattle.image.specs.Rules.{TableSays};
 ghost use Rattle.words.specs.Exactly.{Exactly};
 
@@ -33,9 +35,9 @@ pub fn read_entry(image: &[u8], i: usize) -> Entry
     }
 }
 
-// Whether an entry holds: its body begins at `start`, and its code range not below `floor`.
-fn entry_holds(e: Entry, start: u64, floor: u64, len: u64) -> bool
-    ensures { λ r. ⌜ r ≡ entryHolds e start floor len ⌝ }
+// Whether an entry's words hold: its body begins at `start`, in an image of that length.
+fn entry_fits(e: Entry, start: u64, len: u64) -> bool
+    ensures { λ r. ⌜ r ≡ entryFits e start len ⌝ }
 {
     if e.load % 4 != 0 {
         return false;
@@ -49,13 +51,18 @@ fn entry_holds(e: Entry, start: u64, floor: u64, len: u64) -> bool
     if e.offset as u64 != start {
         return false;
     }
-    if (e.load as u64) < floor {
-        return false;
-    }
-    if 0xE000_0000 < e.load as u64 + 4 * e.records as u64 {
-        return false;
-    }
     e.offset as u64 + 8 * e.records as u64 <= len
+}
+
+// Whether the code range of an entry ends at an address or below it. It ends at the latest where it would if all records were long, and nearly always that tells.
+fn ends_by(image: &[u8], e: Entry, limit: u64) -> bool
+    requires { ⌜ (e .offset + 8 * e .records ≤ length (now image)) × (e .records ≤ 0x1_0000) ⌝ }
+    ensures { λ r. ⌜ r ≡ leb (rangeEnd (now (image .entry)) e) limit ⌝ }
+{
+    if e.load as u64 + 4 * e.records as u64 <= limit {
+        return true;
+    }
+    address_after(image, e.offset as usize, e.load as u64, e.records) <= limit
 }
 
 // The table of contents.
@@ -79,22 +86,32 @@ pub fn check_table(image: &[u8]) -> TableCheck
     check_entries(image, n)
 }
 
-// The n entries, in order, and that the last body ends the image.
+// The n entries, in order, and that the last body ends the image. Before the first one no code range ends anywhere.
 fn check_entries(image: &[u8], n: u32) -> TableCheck
     requires { ⌜ (n ≤ 16) × (4 + 12 * n ≤ length (now image)) ⌝ }
     ensures { λ r. ⌜ r ≡ entriesFrom n (now (image .entry)) 0 (4 + 12 * n) 0 ⌝ }
 {
     let len = image.len() as u64;
     let mut start: u64 = 4 + 12 * n as u64;
-    let mut floor: u64 = 0;
+    let mut last = Entry {
+        load: 0,
+        records: 0,
+        offset: 0,
+    };
     let mut i: u32 = 0;
     while i < n {
         let e = read_entry(image, i as usize);
-        if !entry_holds(e, start, floor, len) {
+        if !entry_fits(e, start, len) {
+            return TableCheck::Fault(i + 1);
+        }
+        if !ends_by(image, last, e.load as u64) {
+            return TableCheck::Fault(i + 1);
+        }
+        if !ends_by(image, e, 0xE000_0000) {
             return TableCheck::Fault(i + 1);
         }
         start += 8 * e.records as u64;
-        floor = e.load as u64 + 4 * e.records as u64;
+        last = e;
         i += 1;
     }
     if start == len {

@@ -2,7 +2,9 @@
 -- Assumes nothing.
 use Prim.Native.Nat.{ℕ, _%_}
 use native.Mathlib.Decide.{ℕ-discrete}
+use native.Mathlib.Omega.{arith}
 use mathlib.Core.Path.{_≡_, refl, sym, ap, _∙_}
+use mathlib.Core.Bool.{Bool}
 use mathlib.Core.List.{List}
 use borrow.Author.Tests.{eq-eqb, ne-eqb}
 use Rattle.words.specs.Exactly.{Exactly}
@@ -15,6 +17,7 @@ use Rattle.lists.specs.declared.ListEnd.the-variants as list
 use Rattle.lists.proofs.Lists.{lists-come, sound-of, of-sound}
 use Rattle.image.specs.Records.{imageOf}
 use Rattle.image.specs.Rules.{ImageRight, ImageSays}
+use Rattle.image.specs.Marks.{longOnly, longIn}
 use Rattle.image.specs.declared.records.ImageCheck.{ImageCheck}
 use Rattle.image.specs.declared.records.ImageCheck.the-variants as image
 use Rattle.image.proofs.Images.{image-says}
@@ -126,3 +129,9 @@ module _ (m : Memory) (img : List ℕ) (pc fcx pcxi : ℕ) where
 
   pub start-exactly : (r : Verdict) → r ≡ startVerdict m img pc fcx pcxi → (r ≡ startVerdict m img pc fcx pcxi) × Exactly (StartSays m img pc fcx pcxi) r
   start-exactly = exactly (StartSays m img pc fcx pcxi) (startVerdict m img pc fcx pcxi) start-says (λ v s. sym (start-is v s))
+
+-- an image that is accepted is told of
+pub accepted-long : (img : List ℕ) (x : ImageCheck) (long : Bool) → long ≡ longIn img x → imageSaid x ≡ Accepted → long ≡ longOnly img
+accepted-long img image.Holds long e h = e
+accepted-long img (image.Table p) long e h = absurd (let z : _≡_ {A = ℕ} 0 1 = cc in omega arith)
+accepted-long img (image.Record k) long e h = absurd (let z : _≡_ {A = ℕ} 0 1 = cc in omega arith)

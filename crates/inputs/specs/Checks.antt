@@ -1,6 +1,6 @@
 -- The checks, in document 01's order: rules 1, 13 and 2 to 4 for a step or a run, all seven for a start.
 use Prim.Native.Nat.{ℕ, _+_, _/_, _%_, _^_}
-use mathlib.Core.Bool.{Bool, cond, _&&_, _||_}
+use mathlib.Core.Bool.{Bool, false, cond, _&&_, _||_}
 use mathlib.Core.List.{List}
 use lib.ListN.{length}
 use lib.Dec.{leb, eqb}
@@ -9,6 +9,7 @@ use Rattle.lists.specs.Walk.{listsOf}
 use Rattle.lists.specs.declared.ListEnd.{ListEnd}
 use Rattle.lists.specs.declared.ListEnd.the-variants as list
 use Rattle.image.specs.Records.{imageOf}
+use Rattle.image.specs.Marks.{longOnly}
 use Rattle.image.specs.declared.records.ImageCheck.{ImageCheck}
 use Rattle.image.specs.declared.records.ImageCheck.the-variants as image
 use Rattle.inputs.specs.declared.verdict.Verdict.{Verdict}
@@ -75,3 +76,8 @@ stepVerdict m img pc = andThen (windowVerdict m) (andThen (imageVerdict img) (pc
 -- what a start is tried with
 unfoldable pub startVerdict : Memory → List ℕ → ℕ → ℕ → ℕ → Verdict
 startVerdict m img pc fcx pcxi = andThen (stepVerdict m img pc) (listsSaid (listsOf m fcx pcxi))
+
+-- whether an image has no short form is told where the input is accepted
+abbrev pub longTold : List ℕ → Verdict → Bool
+longTold img Accepted = longOnly img
+longTold img (Refused r) = false

@@ -6,12 +6,13 @@ use areas::link::Address;
 use image::records::ImageCheck;
 use lists::ListEnd;
 ghost use mathlib.Core.Path.{_≡_};
-ghost use mathlib.Core.List.{_++_};
-ghost use Prim.Native.Nat.{_≤_};
+ghost use mathlib.Core.List.{List, _++_};
+ghost use Prim.Native.Nat.{ℕ, _≤_};
 ghost use lib.ListN.{length};
 ghost use Rattle.memory.specs.Memory.{lent};
 ghost use Rattle.lists.specs.Walk.{listsOf};
-ghost use Rattle.inputs.specs.Checks.{windowHolds, secondHolds, apartHolds, windowsVerdict, windowVerdict, imageVerdict, pcVerdict, listsSaid, listsVerdict, stepVerdict, startVerdict};
+ghost use Rattle.inputs.specs.Checks.{windowHolds, secondHolds, apartHolds, windowsVerdict, windowVerdict, andThen, imageSaid, imageVerdict, pcVerdict, listsSaid, listsVerdict, stepVerdict, startVerdict, longTold};
+ghost use Rattle.image.specs.Marks.{longOnly};
 ghost use Rattle.inputs.specs.Rules.{WindowsSay, ContentsSay, PcSays, ListsSay, StepSays, StartSays};
 ghost use Rattle.words.specs.Exactly.{Exactly};
 
@@ -85,16 +86,23 @@ pub fn check_windows(base: Address, window: &[u8], base2: Address, window2: &[u8
     try_windows(base, window.len(), base2, window2.len())
 }
 
+// The answer of the image's check as a verdict.
+fn image_said(check: ImageCheck) -> Verdict
+    ensures { λ r. ⌜ r ≡ imageSaid check ⌝ }
+{
+    match check {
+        ImageCheck::Holds => Verdict::Accepted,
+        ImageCheck::Table(entry) => Verdict::Refused(Refusal::Table(entry)),
+        ImageCheck::Record(index) => Verdict::Refused(Refusal::Record(index)),
+    }
+}
+
 // Rules 2 and 3.
 pub fn check_image(image: &[u8]) -> Verdict
     ensures { λ r. ⌜ (r ≡ imageVerdict (now (image .entry))) × Exactly (ContentsSay (now (image .entry))) r ⌝ }
     ensures unchanged { λ _. ⌜ now (image .exit) ≡ now (image .entry) ⌝ }
 {
-    match image::records::check_image(image) {
-        ImageCheck::Holds => Verdict::Accepted,
-        ImageCheck::Table(entry) => Verdict::Refused(Refusal::Table(entry)),
-        ImageCheck::Record(index) => Verdict::Refused(Refusal::Record(index)),
-    }
+    image_said(image::records::check_image(image))
 }
 
 // Rule 4.
@@ -143,7 +151,64 @@ fn try_lists<'a>(
     }
 }
 
-// Rules 1, 13 and 2 to 4: what a step, or a run from a given state, is tried with.
+// A verdict, and of an image that is accepted whether it has no short form.
+pub struct Tried {
+    pub verdict: Verdict,
+    pub long: bool,
+}
+
+// Of an input that is refused nothing is told.
+fn long_told(v: Verdict, long: bool) -> bool
+    ensures { λ r. ⌜ ((img : List ℕ) → long ≡ longOnly img → r ≡ longTold img v) ⌝ }
+{
+    match v {
+        Verdict::Accepted => long,
+        Verdict::Refused(_) => false,
+    }
+}
+
+// Rules 2 to 4.
+fn try_code(image: &[u8], pc: u32) -> Tried
+    ensures { λ r. ⌜ (r .verdict ≡ andThen (imageVerdict (now (image .entry))) (pcVerdict pc)) × (r .long ≡ longTold (now (image .entry)) (r .verdict)) ⌝ }
+{
+    let s = image::records::scan_image(image);
+    let check = s.check;
+    match image_said(check) {
+        Verdict::Refused(r) => Tried {
+            verdict: Verdict::Refused(r),
+            long: false,
+        },
+        Verdict::Accepted => {
+            let v = check_pc(pc);
+            Tried {
+                verdict: v,
+                long: long_told(v, s.long),
+            }
+        }
+    }
+}
+
+// Rules 1, 13 and 2 to 4: what a step, or a run from a given state, is tried with. The pass over the records tells of short forms.
+pub fn scan_step(
+    base: Address,
+    window: &[u8],
+    base2: Address,
+    window2: &[u8],
+    image: &[u8],
+    pc: u32,
+) -> Tried
+    ensures { λ r. ⌜ (r .verdict ≡ stepVerdict (lent (base .0) (now (window .entry)) (base2 .0) (now (window2 .entry))) (now (image .entry)) pc) × Exactly (StepSays (lent (base .0) (now (window .entry)) (base2 .0) (now (window2 .entry))) (now (image .entry)) pc) (r .verdict) × (r .long ≡ longTold (now (image .entry)) (r .verdict)) ⌝ }
+    ensures unchanged { λ _. ⌜ (now (window .exit) ≡ now (window .entry)) × (now (window2 .exit) ≡ now (window2 .entry)) × (now (image .exit) ≡ now (image .entry)) ⌝ }
+{
+    match check_windows(base, window, base2, window2) {
+        Verdict::Refused(r) => Tried {
+            verdict: Verdict::Refused(r),
+            long: false,
+        },
+        Verdict::Accepted => try_code(image, pc),
+    }
+}
+
 pub fn try_step(
     base: Address,
     window: &[u8],
@@ -155,13 +220,7 @@ pub fn try_step(
     ensures { λ r. ⌜ (r ≡ stepVerdict (lent (base .0) (now (window .entry)) (base2 .0) (now (window2 .entry))) (now (image .entry)) pc) × Exactly (StepSays (lent (base .0) (now (window .entry)) (base2 .0) (now (window2 .entry))) (now (image .entry)) pc) r ⌝ }
     ensures unchanged { λ _. ⌜ (now (window .exit) ≡ now (window .entry)) × (now (window2 .exit) ≡ now (window2 .entry)) × (now (image .exit) ≡ now (image .entry)) ⌝ }
 {
-    match check_windows(base, window, base2, window2) {
-        Verdict::Refused(r) => Verdict::Refused(r),
-        Verdict::Accepted => match check_image(image) {
-            Verdict::Refused(r) => Verdict::Refused(r),
-            Verdict::Accepted => check_pc(pc),
-        },
-    }
+    scan_step(base, window, base2, window2, image, pc).verdict
 }
 
 // All seven rules: what a start is tried with.

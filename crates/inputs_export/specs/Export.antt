@@ -4,6 +4,7 @@ use mathlib.Core.Path.{_≡_}
 use mathlib.Core.List.{List}
 use Rattle.image.specs.Records.{imageOf}
 use Rattle.image.specs.Rules.{ImageRight}
+use Rattle.image.specs.Rest.{farOf}
 use Rattle.image.specs.Fetch.{fetchOf, FetchSays}
 use Rattle.image.specs.declared.records.ImageCheck.{ImageCheck}
 use Rattle.image.specs.declared.records.ImageCheck.the-variants as image
@@ -18,18 +19,18 @@ abbrev pub verdictOf : Verdict → ℕ
 verdictOf Accepted = 0
 verdictOf (Refused r) = faultOf r * 2 ^ 32 + numberOf r
 
--- 1, c, a, b from the lowest byte on, and the immediate in the high word
-abbrev pub packedFetch : Fetched → ℕ
-packedFetch Nothing = 0
-packedFetch (Found i) = i .imm * 2 ^ 32 + i .b * 2 ^ 24 + i .a * 2 ^ 16 + i .c * 2 ^ 8 + 1
+-- of a record at pc how many addresses it covers, c, a, b from the lowest byte on, and the immediate in the high word
+abbrev pub packedFetch : ℕ → Fetched → ℕ
+packedFetch pc Nothing = 0
+packedFetch pc (Found i) = i .imm * 2 ^ 32 + i .b * 2 ^ 24 + i .a * 2 ^ 16 + i .c * 2 ^ 8 + farOf pc (i .next)
 
 abbrev pub fetchedOf : List ℕ → ℕ → ℕ
-fetchedOf img pc = packedFetch (fetchOf img pc)
+fetchedOf img pc = packedFetch pc (fetchOf img pc)
 
 -- the number of the record that begins at pc, or of none where none does
 pub record FetchTells (img : List ℕ) (pc n : ℕ) : Type 0 where
   pub fetched : Fetched
-  pub number : n ≡ packedFetch fetched
+  pub number : n ≡ packedFetch pc fetched
   pub says : FetchSays img pc fetched
 
 -- of an image that rules 2 and 3 accept; of any other 0

@@ -85,7 +85,7 @@ pub extern "C" fn deqbaryn_try_start<'a>(
     ))
 }
 
-// The record at pc of an accepted image: 1, c, a, b from the lowest byte on, and the immediate in the high word. 0 where no record begins there, or the image is refused.
+// The record at pc of an accepted image: how many addresses it covers, c, a, b from the lowest byte on, and the immediate in the high word. 0 where no record begins there, or the image is refused.
 #[no_mangle]
 pub extern "C" fn deqbaryn_fetch(image: &[u8], pc: u32) -> u64
     ensures { λ r. ⌜ (r ≡ exportedFetch (now (image .entry)) pc) × FetchTold (now (image .entry)) pc r ⌝ }
@@ -108,7 +108,7 @@ fn fetched(image: &[u8], pc: u32) -> u64
                 + i.b as u64 * 0x100_0000
                 + i.a as u64 * 0x1_0000
                 + i.c as u64 * 0x100
-                + 1
+                + std::num::wrapping_sub_u32(i.next, pc) as u64
         }
     }
 }

@@ -3,7 +3,7 @@
 use Prim.Native.Nat.{ℕ, suc, _+_, _-_, _*_, _≤_, _<_}
 use native.Mathlib.Omega.{arith}
 use mathlib.Core.Path.{_≡_, refl, sym, ap, subst, _∙_}
-use mathlib.Core.Bool.{true, false}
+use mathlib.Core.Bool.{Bool, true, false}
 use mathlib.Core.List.{List}
 use Rattle.words.proofs.Truth.{never}
 use Rattle.memory.specs.Memory.{Memory}
@@ -16,7 +16,7 @@ use Rattle.events.specs.declared.event.Ending.{Ending}
 use Rattle.events.specs.declared.event.Ending.the-variants as ending
 use Rattle.protection.specs.declared.range.Range.{Range}
 use Rattle.interrupts.specs.Sources.{bestOf, takes}
-use Rattle.image.specs.Rest.{IndexSays}
+use Rattle.image.proofs.Addresses.{after-none}
 use Rattle.image.specs.Fetch.{instructionAt}
 use Rattle.image.specs.declared.fetch.Instruction.{Instruction}
 use Rattle.entries.specs.Entry.{MadeOf}
@@ -26,7 +26,7 @@ use Rattle.execute.specs.declared.Executed.{Executed}
 use Rattle.execute.specs.declared.Executed.the-variants as executed
 use Rattle.decisions.specs.Phases.{oneOf, instructionOf, requestsOf}
 use Rattle.machine.specs.Run.{runFrom}
-use Rattle.spans.specs.Spans.{SpanHolds}
+use Rattle.spans.specs.Spans.{begin, SpanHolds, IndexIn}
 use Rattle.machine.specs.Inner.{Ready, paced, pacedAfter, Paces}
 use Rattle.machine.specs.declared.answer.Outcome.{Outcome}
 use Rattle.machine.specs.declared.answer.Outcome.the-variants as outcome
@@ -130,27 +130,27 @@ module _ (n : ℕ) (img : List ℕ) (rs : List Range) (r₀ : Registers) (m₀ :
         }
 
   -- ---- in a span
-  module _ (s : Span) where
+  module _ (long : Bool) (s : Span) where
     pub record Walk (left k : ℕ) (r : Registers) (m : Memory) : Type 0 where
       pub stands : Stands left r m
-      pub span : SpanHolds img (r .core) rs s
+      pub span : SpanHolds img long (r .core) rs s
       pub inside : k < s .records
-      pub at : pc r ≡ s .from + 4 * k
+      pub at : pc r ≡ begin img s k
 
-    pub walk-first : 0 < n → Ready img r₀ m₀ → SpanHolds img (r₀ .core) rs s → s .from ≡ pc r₀ → 0 < s .records → Walk n 0 r₀ m₀
-    walk-first h y p e l = record { stands = stands-first h y; span = p; inside = l; at = omega arith }
+    pub walk-first : 0 < n → Ready img r₀ m₀ → SpanHolds img long (r₀ .core) rs s → s .from ≡ pc r₀ → 0 < s .records → Walk n 0 r₀ m₀
+    walk-first h y p e l = record { stands = stands-first h y; span = p; inside = l; at = sym e ∙ sym (after-none img (s .at) (s .from)) }
 
     pub walk-is : {left k : ℕ} {r : Registers} {m : Memory} → Walk left k r m → {i : Instruction} → i ≡ instructionAt img (s .at + 8 * k) (pc r) → {v : MadeOf} → v ≡ executeOf i r rs m → v ≡ instructionOf img r rs m
     walk-is {left} {k} {r} {m} t e h = h ∙ ap (λ (i : Instruction). executeOf i r rs m) e ∙ in-span r (t .span) k (t .inside) (t .at) m
 
     pub walk-next : {left k : ℕ} {r : Registers} {m : Memory} → Walk left k r m → {v : MadeOf} → v ≡ instructionOf img r rs m → (x : Executed) → v .ending ≡ endingOf x → isSteady x ≡ true → Kept x r (v .registers) → 0 < left - 1
-        → (j : ℕ) → IndexSays (s .from) (pc (v .registers)) j → j < s .records → Walk (left - 1) j (v .registers) (v .memory)
+        → (j : ℕ) → IndexIn img s (pc (v .registers)) j → j < s .records → Walk (left - 1) j (v .registers) (v .memory)
     walk-next {left} {k} {r} {m} t {v} is executed.Steady e z x h j i l =
         let p = t .span in
         record {
           stands = stands-next (t .stands) is e (x .interrupts) h;
           span = span-steady r p (v .registers) x;
           inside = l;
-          at = i (s .records) (omega (arith, p .most)) (omega (arith, p .below)) l;
+          at = i l;
         }
     walk-next t is (executed.Ended y) e z x h j i l = absurd (never (sym z))

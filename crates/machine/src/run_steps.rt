@@ -9,7 +9,9 @@ use execute::ending_of;
 use execute::execute_instruction;
 use execute::steady;
 use image::fetch::index_from;
+use image::fetch::next_after;
 use image::fetch::read_record;
+use image::marks::Guide;
 use interrupts::Best;
 use interrupts::best_source;
 use interrupts::clear;
@@ -18,6 +20,7 @@ use registers::ICR;
 use registers::PC;
 use spans::Ahead;
 use spans::Span;
+use spans::index::index_at;
 use spans::look_ahead;
 ghost use mathlib.Core.Path.{_≡_};
 ghost use Prim.Native.Nat.{_<_};
@@ -27,6 +30,7 @@ ghost use Rattle.protection.specs.Range.{rangesIn};
 ghost use Rattle.machine.specs.Step.{outcomeOf};
 ghost use Rattle.machine.specs.Run.{ran, runFrom};
 ghost use Rattle.machine.specs.Inner.{Foremost, Ready, pacedAfter, Paces};
+ghost use Rattle.image.specs.Marks.{Guides};
 ghost use Rattle.spans.specs.Spans.{SpanHolds};
 ghost use Rattle.machine.specs.declared.answer.Outcome.the-variants as outcome;
 ghost use Rattle.events.specs.declared.event.Event.the-variants as event;
@@ -44,6 +48,8 @@ fn steady_steps(
     base2: u32,
     window2: &mut [u8],
     image: &[u8],
+    guide: Guide,
+    marks: &[u64],
     d: &mut [u32; 16],
     a: &mut [u32; 16],
     core: &mut [u32; 10],
@@ -52,14 +58,17 @@ fn steady_steps(
     n: u32,
 ) -> Paced
     requires { ⌜ Ready (now image) (registers (now d) (now a) (now core)) (lent base (now window) base2 (now window2)) ⌝ }
-    requires { ⌜ SpanHolds (now image) (now core) (rangesIn (now words)) s ⌝ }
+    requires { ⌜ Guides (now image) guide (now marks) ⌝ }
+    requires { ⌜ SpanHolds (now image) (guide .long) (now core) (rangesIn (now words)) s ⌝ }
     requires { ⌜ (s .from ≡ pc (registers (now d) (now a) (now core))) × (0 < s .records) × (0 < n) ⌝ }
     ensures { λ r. ⌜ Paces n (now (image .entry)) (rangesIn (now (words .entry))) (registers (now (d .entry)) (now (a .entry)) (now (core .entry))) (lent base (now (window .entry)) base2 (now (window2 .entry))) r (registers (now (d .exit)) (now (a .exit)) (now (core .exit))) (lent base (now (window .exit)) base2 (now (window2 .exit))) ⌝ }
 {
+    let at = s.at;
     let mut left = n;
     let mut k: u32 = 0;
+    let mut next = next_after(image, at, core[PC]);
     loop {
-        let i = read_record(image, s.at + 8 * k as usize, core[PC]);
+        let i = read_record(image, at + 8 * k as usize, next);
         let done = execute_instruction(base, window, base2, window2, d, a, core, words, i);
         let ending = ending_of(done);
         let Ending::Made(_) = ending else {
@@ -81,13 +90,21 @@ fn steady_steps(
                 left: left,
             };
         }
-        k = index_from(s.from, core[PC]);
+        let pc = core[PC];
+        let j = index_from(s.from, pc);
+        if j < s.long {
+            k = j;
+            next = std::num::wrapping_add_u32(pc, 4);
+            continue;
+        }
+        k = index_at(image, guide, marks, s, k, next, pc);
         if s.records <= k {
             return Paced {
                 ending: ending,
                 left: left,
             };
         }
+        next = next_after(image, at + 8 * k as usize, pc);
     }
 }
 
@@ -115,6 +132,8 @@ fn instructions(
     base2: u32,
     window2: &mut [u8],
     image: &[u8],
+    guide: Guide,
+    marks: &[u64],
     d: &mut [u32; 16],
     a: &mut [u32; 16],
     core: &mut [u32; 10],
@@ -122,10 +141,11 @@ fn instructions(
     n: u32,
 ) -> Paced
     requires { ⌜ Ready (now image) (registers (now d) (now a) (now core)) (lent base (now window) base2 (now window2)) ⌝ }
+    requires { ⌜ Guides (now image) guide (now marks) ⌝ }
     requires { ⌜ 0 < n ⌝ }
     ensures { λ r. ⌜ Paces n (now (image .entry)) (rangesIn (now (words .entry))) (registers (now (d .entry)) (now (a .entry)) (now (core .entry))) (lent base (now (window .entry)) base2 (now (window2 .entry))) r (registers (now (d .exit)) (now (a .exit)) (now (core .exit))) (lent base (now (window .exit)) base2 (now (window2 .exit))) ⌝ }
 {
-    match look_ahead(image, core, words) {
+    match look_ahead(image, guide, marks, core, words) {
         Ahead::Traps(t) => {
             let pc = core[PC];
             after_one(trap(base, window, base2, window2, d, a, core, t, pc), n)
@@ -136,6 +156,8 @@ fn instructions(
             base2,
             window2,
             image,
+            guide,
+            marks,
             d,
             a,
             core,
@@ -174,6 +196,8 @@ fn run_by_reference(
     base2: u32,
     window2: &mut [u8],
     image: &[u8],
+    guide: Guide,
+    marks: &[u64],
     d: &mut [u32; 16],
     a: &mut [u32; 16],
     core: &mut [u32; 10],
@@ -182,6 +206,7 @@ fn run_by_reference(
     n: u32,
 ) -> Went
     requires { ⌜ Ready (now image) (registers (now d) (now a) (now core)) (lent base (now window) base2 (now window2)) ⌝ }
+    requires { ⌜ Guides (now image) guide (now marks) ⌝ }
     ensures { λ r. ⌜ ran (outcomeOf (r .ending)) (r .made) (registers (now (d .exit)) (now (a .exit)) (now (core .exit))) (now (requests .exit)) (lent base (now (window .exit)) base2 (now (window2 .exit))) ≡ runFrom n (now (image .entry)) (rangesIn (now (words .entry))) (outcome.Made event.Instruction) 0 (registers (now (d .entry)) (now (a .entry)) (now (core .entry))) (now (requests .entry)) (lent base (now (window .entry)) base2 (now (window2 .entry))) ⌝ }
 {
     let mut best = first_source(requests, core[ICR], n);
@@ -212,7 +237,7 @@ fn run_by_reference(
             best = best_source(requests);
             continue;
         }
-        let p = instructions(base, window, base2, window2, image, d, a, core, words, left);
+        let p = instructions(base, window, base2, window2, image, guide, marks, d, a, core, words, left);
         let ending = p.ending;
         let Ending::Made(e) = ending else {
             return Went {
@@ -236,6 +261,8 @@ pub fn run_steps(
     base2: u32,
     window2: &mut [u8],
     image: &[u8],
+    guide: Guide,
+    marks: &[u64],
     d: &mut [u32; 16],
     a: &mut [u32; 16],
     core: &mut [u32; 10],
@@ -244,6 +271,7 @@ pub fn run_steps(
     n: u32,
 ) -> Went
     requires { ⌜ Ready (now image) (registers (now d) (now a) (now core)) (lent base (now window) base2 (now window2)) ⌝ }
+    requires { ⌜ Guides (now image) guide (now marks) ⌝ }
     ensures { λ r. ⌜ ran (outcomeOf (r .ending)) (r .made) (registers (now (d .exit)) (now (a .exit)) (now (core .exit))) (now (requests .exit)) (lent base (now (window .exit)) base2 (now (window2 .exit))) ≡ runFrom n (now (image .entry)) (rangesIn (now (words .entry))) (outcome.Made event.Instruction) 0 (registers (now (d .entry)) (now (a .entry)) (now (core .entry))) (now (requests .entry)) (lent base (now (window .entry)) base2 (now (window2 .entry))) ⌝ }
 {
     let mut own_d = *d;
@@ -255,6 +283,8 @@ pub fn run_steps(
         base2,
         window2,
         image,
+        guide,
+        marks,
         &mut own_d,
         &mut own_a,
         &mut own_core,

@@ -4,9 +4,11 @@ use crate::answer::Outcome;
 use crate::answer::Ran;
 use crate::answer::Stepped;
 use crate::answer::outcome_of;
+use crate::guided::run_guided;
 use crate::run_steps::run_steps;
 use areas::link::Address;
-use inputs::checks::try_step;
+use image::marks::Guide;
+use inputs::checks::scan_step;
 use inputs::verdict::Verdict;
 use permits::Permits;
 use permits::permits_of;
@@ -16,26 +18,30 @@ use protection::range::flat;
 use registers::PC;
 use registers::Registers;
 ghost use mathlib.Core.Path.{_≡_};
+ghost use mathlib.Core.Bool.{true};
 ghost use Rattle.words.specs.Exactly.{Exactly};
 ghost use Rattle.memory.specs.Memory.{lent};
 ghost use Rattle.registers.specs.Registers.{pc};
+ghost use Rattle.image.specs.Marks.{longOnly};
 ghost use Rattle.inputs.specs.Rules.{StepSays};
 ghost use Rattle.machine.specs.Step.{verdictIn, stepped, stepOf};
 ghost use Rattle.machine.specs.Run.{ran, runOf, RefusedKeeps};
 ghost use Rattle.machine.specs.Inner.{Ready};
 
-// A step of an accepted machine, for a caller that has tried these rules once. The machine stays accepted.
+// A step of an accepted machine, for a caller that has tried these rules once, with what it knows of the image. The machine stays accepted.
 pub fn step_accepted(
     base: Address,
     window: &mut [u8],
     base2: Address,
     window2: &mut [u8],
     image: &[u8],
+    long: bool,
     registers: Registers,
     requests: [u32; 16],
     ranges: [Range; 32],
 ) -> Stepped
     requires { ⌜ Ready (now image) registers (lent (base .0) (now window) (base2 .0) (now window2)) ⌝ }
+    requires { ⌜ (long ≡ true → longOnly (now image) ≡ true) ⌝ }
     ensures { λ r. ⌜ stepped (r .outcome) (r .registers) (r .requests) (lent (base .0) (now (window .exit)) (base2 .0) (now (window2 .exit))) (r .permits) ≡ stepOf (now (image .entry)) registers requests ranges (lent (base .0) (now (window .entry)) (base2 .0) (now (window2 .entry))) ⌝ }
     ensures { λ r. ⌜ Ready (now (image .entry)) (r .registers) (lent (base .0) (now (window .exit)) (base2 .0) (now (window2 .exit))) ⌝ }
 {
@@ -44,13 +50,19 @@ pub fn step_accepted(
     let mut a = registers.a;
     let mut core = registers.core;
     let mut xs = requests;
-    let p = permits_of(image, &a, &core, &xs, &words);
+    let none = [0; 1];
+    let p = permits_of(image, long, &a, &core, &xs, &words);
     let w = run_steps(
         base.0,
         window,
         base2.0,
         window2,
         image,
+        Guide {
+            long: long,
+            shift: 0,
+        },
+        &none,
         &mut d,
         &mut a,
         &mut core,
@@ -85,7 +97,9 @@ pub fn step(
     ensures { λ r. ⌜ stepped (r .outcome) (r .registers) (r .requests) (lent (base .0) (now (window .exit)) (base2 .0) (now (window2 .exit))) (r .permits) ≡ stepOf (now (image .entry)) registers requests ranges (lent (base .0) (now (window .entry)) (base2 .0) (now (window2 .entry))) ⌝ }
     ensures { λ r. ⌜ Exactly (StepSays (lent (base .0) (now (window .entry)) (base2 .0) (now (window2 .entry))) (now (image .entry)) (pc registers)) (verdictIn (r .outcome)) ⌝ }
 {
-    match try_step(base, window, base2, window2, image, registers.core[PC]) {
+    let tried = scan_step(base, window, base2, window2, image, registers.core[PC]);
+    let verdict = tried.verdict;
+    match verdict {
         Verdict::Refused(x) => Stepped {
             registers: registers,
             requests: requests,
@@ -102,6 +116,7 @@ pub fn step(
                 base2,
                 window2,
                 image,
+                tried.long,
                 registers,
                 requests,
                 ranges,
@@ -126,7 +141,9 @@ pub fn run(
     ensures { λ r. ⌜ RefusedKeeps registers requests (lent (base .0) (now (window .entry)) (base2 .0) (now (window2 .entry))) (ran (r .outcome) (r .made) (r .registers) (r .requests) (lent (base .0) (now (window .exit)) (base2 .0) (now (window2 .exit)))) ⌝ }
     ensures { λ r. ⌜ Exactly (StepSays (lent (base .0) (now (window .entry)) (base2 .0) (now (window2 .entry))) (now (image .entry)) (pc registers)) (verdictIn (r .outcome)) ⌝ }
 {
-    match try_step(base, window, base2, window2, image, registers.core[PC]) {
+    let tried = scan_step(base, window, base2, window2, image, registers.core[PC]);
+    let verdict = tried.verdict;
+    match verdict {
         Verdict::Refused(x) => Ran {
             registers: registers,
             requests: requests,
@@ -139,12 +156,13 @@ pub fn run(
             let mut a = registers.a;
             let mut core = registers.core;
             let mut xs = requests;
-            let w = run_steps(
+            let w = run_guided(
                 base.0,
                 window,
                 base2.0,
                 window2,
                 image,
+                tried.long,
                 &mut d,
                 &mut a,
                 &mut core,

@@ -193,18 +193,15 @@ pub fn access_of(number: u8) -> Access
 }
 
 // Whether a number is that of an operation.
-pub fn is_operation(number: u8) -> bool
+pub fn is_operation(number: u32) -> bool
     ensures { λ r. ⌜ r ≡ ltb number (length operations) ⌝ }
 {
     number < 79
 }
 
 // Whether the operation with a number compares two data registers: it takes no immediate.
-pub fn is_compare(number: u8) -> bool
+pub fn is_compare(number: u32) -> bool
     ensures { λ r. ⌜ r ≡ compares (operationOf number) ⌝ }
 {
-    if number < 57 {
-        return false;
-    }
-    number < 63
+    (57 <= number) & (number < 63)
 }

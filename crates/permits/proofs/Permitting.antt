@@ -27,6 +27,7 @@ use Rattle.protection.proofs.Searches.{lowest-says, lowest-is}
 use Rattle.interrupts.specs.Sources.{bestOf, takes}
 use Rattle.operations.specs.Operations.{operationOf, accessOf}
 use Rattle.operations.specs.declared.Access.{Access as DataAccess}
+use Rattle.image.specs.Lengths.{operationNumber}
 use Rattle.image.specs.Fetch.{instructionAt, fetchOf}
 use Rattle.image.specs.declared.fetch.Instruction.{Instruction}
 use Rattle.image.specs.declared.fetch.Fetched.the-variants.{Found, Nothing}
@@ -80,7 +81,7 @@ module _ (core : List ℕ) (rs : List Range) where
 
   -- ---- the data access of the record at a byte of the image
   module _ (a img : List ℕ) (at pc address : ℕ) (is : address ≡ plusOf (getD a (getD img (at + 2) 0) 0) (wordAt img (at + 4))) where
-    pub of-data : (x : DataAccess) → x ≡ accessOf (operationOf (getD img at 0)) → {p : Permit} → p ≡ permitOf core rs (dataBy x address) → p ≡ permitOf core rs (dataIn (instructionAt img at pc) a)
+    pub of-data : (x : DataAccess) → x ≡ accessOf (operationOf (operationNumber (getD img at 0))) → {p : Permit} → p ≡ permitOf core rs (dataBy x address) → p ≡ permitOf core rs (dataIn (instructionAt img at pc) a)
     unfolding instructionAt
     of-data x e h = rw (← e, ← is) h
 

@@ -1,7 +1,10 @@
 // The ranges that permit a step's fetch and its data access: of set PRS the lowest.
 
+use image::fetch::Rest;
 use image::fetch::rest_at;
+use image::fetch::rest_long;
 use image::fetch::wide;
+use image::lengths::operation_number;
 use interrupts::best_source;
 use interrupts::taken;
 use memory::word_at;
@@ -18,11 +21,14 @@ use registers::PSW;
 use registers::SYSCON;
 use registers::plus;
 ghost use mathlib.Core.Path.{_≡_};
+ghost use mathlib.Core.Bool.{true};
 ghost use Prim.Native.Nat.{_+_, _≤_};
 ghost use lib.ListN.{length};
 ghost use Rattle.words.specs.Exactly.{Exactly};
 ghost use Rattle.protection.specs.Range.{rangesIn};
 ghost use Rattle.image.specs.Records.{ImageHolds};
+ghost use Rattle.image.specs.Rest.{restOf};
+ghost use Rattle.image.specs.Marks.{longOnly};
 ghost use Rattle.image.specs.Fetch.{instructionAt, FieldsHold};
 ghost use Rattle.permits.specs.Permits.{access, dataIn, dataAt, fetchAsked, dataAsked, permitOf, permitsOf, Named};
 
@@ -64,23 +70,41 @@ fn permit_record(
 {
     let x = wide(image[at + 2]);
     let address = plus(a[x], word_at(image, at + 4));
-    match access_of(image[at]) {
+    match access_of(operation_number(image[at])) {
         Access::Nothing => Permit::Unnamed,
         Access::Read => permit_for(core, words, Right::Read, address),
         Access::Write => permit_for(core, words, Right::Write, address),
     }
 }
 
+// The records from pc on. What is known of short forms makes it quick.
+fn rest_of(image: &[u8], long: bool, pc: u32) -> Rest
+    requires { ⌜ ImageHolds (now image) × (long ≡ true → longOnly (now image) ≡ true) ⌝ }
+    ensures { λ r. ⌜ r ≡ restOf (now (image .entry)) pc ⌝ }
+{
+    if long {
+        return rest_long(image, pc);
+    }
+    let none = [0; 1];
+    rest_at(image, &none, 0, pc).rest
+}
+
 // Of the data access of the instruction at PC.
-fn permit_data(image: &[u8], a: &[u32; 16], core: &[u32; 10], words: &[u32; 96]) -> Permit
-    requires { ⌜ ImageHolds (now image) ⌝ }
+fn permit_data(
+    image: &[u8],
+    long: bool,
+    a: &[u32; 16],
+    core: &[u32; 10],
+    words: &[u32; 96],
+) -> Permit
+    requires { ⌜ ImageHolds (now image) × (long ≡ true → longOnly (now image) ≡ true) ⌝ }
     ensures { λ r. ⌜ r ≡ permitOf (now (core .entry)) (rangesIn (now (words .entry))) (dataAt (now (image .entry)) (now (a .entry)) (now (core .entry)) (rangesIn (now (words .entry)))) ⌝ }
 {
     let pc = core[PC];
     match check_access(core, words, Right::Execute, pc) {
         Check::Fails(_) => Permit::Unnamed,
         Check::Passes => {
-            let rest = rest_at(image, pc);
+            let rest = rest_of(image, long, pc);
             if rest.records == 0 {
                 return Permit::Unnamed;
             }
@@ -92,12 +116,13 @@ fn permit_data(image: &[u8], a: &[u32; 16], core: &[u32; 10], words: &[u32; 96])
 // Of a step with these registers and requests.
 pub fn permits_of(
     image: &[u8],
+    long: bool,
     a: &[u32; 16],
     core: &[u32; 10],
     requests: &[u32; 16],
     words: &[u32; 96],
 ) -> Permits
-    requires { ⌜ ImageHolds (now image) ⌝ }
+    requires { ⌜ ImageHolds (now image) × (long ≡ true → longOnly (now image) ≡ true) ⌝ }
     ensures { λ r. ⌜ r ≡ permitsOf (now (image .entry)) (now (a .entry)) (now (core .entry)) (now (requests .entry)) (rangesIn (now (words .entry))) ⌝ }
     ensures { λ r. ⌜ Exactly (Named (now (core .entry)) (rangesIn (now (words .entry))) (fetchAsked (now (core .entry)) (now (requests .entry)))) (r .fetch) ⌝ }
     ensures { λ r. ⌜ Exactly (Named (now (core .entry)) (rangesIn (now (words .entry))) (dataAsked (now (image .entry)) (now (a .entry)) (now (core .entry)) (now (requests .entry)) (rangesIn (now (words .entry))))) (r .data) ⌝ }
@@ -117,6 +142,6 @@ pub fn permits_of(
     }
     Permits {
         fetch: permit_for(core, words, Right::Execute, core[PC]),
-        data: permit_data(image, a, core, words),
+        data: permit_data(image, long, a, core, words),
     }
 }

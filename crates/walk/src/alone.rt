@@ -9,6 +9,8 @@ use machine::steps::step_accepted;
 use protection::range::Range;
 use registers::Registers;
 ghost use mathlib.Core.Path.{_≡_};
+ghost use mathlib.Core.Bool.{true};
+ghost use Rattle.image.specs.Marks.{longOnly};
 ghost use Rattle.inputs.specs.Checks.{startVerdict};
 ghost use Rattle.machine.specs.Step.{stepped, stepOf};
 ghost use Rattle.machine.specs.Inner.{Ready};
@@ -27,11 +29,13 @@ pub fn try_alone(window: &[u8], image: &[u8], pc: u32, fcx: u32, pcxi: u32) -> V
 pub fn step_alone(
     window: &mut [u8],
     image: &[u8],
+    long: bool,
     registers: Registers,
     requests: [u32; 16],
     ranges: [Range; 32],
 ) -> Stepped
     requires { ⌜ Ready (now image) registers (windowOf (now window)) ⌝ }
+    requires { ⌜ (long ≡ true → longOnly (now image) ≡ true) ⌝ }
     ensures { λ r. ⌜ stepped (r .outcome) (r .registers) (r .requests) (windowOf (now (window .exit))) (r .permits) ≡ stepOf (now (image .entry)) registers requests ranges (windowOf (now (window .entry))) ⌝ }
     ensures { λ r. ⌜ Ready (now (image .entry)) (r .registers) (windowOf (now (window .exit))) ⌝ }
 {
@@ -42,6 +46,7 @@ pub fn step_alone(
         NONE,
         &mut none,
         image,
+        long,
         registers,
         requests,
         ranges,

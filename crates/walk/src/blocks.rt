@@ -12,6 +12,7 @@ use crate::start::no_ranges;
 use crate::start::start_registers;
 use crate::start::start_window;
 use events::event::Event;
+use image::records::is_long;
 use inputs::verdict::Verdict;
 use machine::answer::Outcome;
 use registers::FCX;
@@ -109,6 +110,7 @@ pub fn go_on(image: &[u8], w: Walk, out: &mut [u8; 65536]) -> Walk
     ensures { λ r. ⌜ Onward w r ⌝ }
 {
     let ranges = no_ranges();
+    let long = is_long(image);
     let mut window = w.window;
     let mut registers = w.registers;
     let mut requests = w.requests;
@@ -126,7 +128,7 @@ pub fn go_on(image: &[u8], w: Walk, out: &mut [u8; 65536]) -> Walk
             };
         }
         let pc = registers.core[PC];
-        let s = step_alone(&mut window, image, registers, requests, ranges);
+        let s = step_alone(&mut window, image, long, registers, requests, ranges);
         registers = s.registers;
         requests = s.requests;
         let outcome = s.outcome;

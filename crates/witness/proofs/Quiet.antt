@@ -29,9 +29,10 @@ use Rattle.protection.specs.Access.{checkOf}
 use Rattle.interrupts.specs.Sources.{betterOf, bestBelow, takes, clearedAt}
 use Rattle.operations.specs.declared.Store.the-variants.{StW}
 use Rattle.operations.specs.Operations.{operationOf}
-use Rattle.image.specs.Table.{entryAt, entryHolds, entriesFrom, tableOf}
+use Rattle.image.specs.Lengths.{operationNumber, lengthOf, addressAfter}
+use Rattle.image.specs.Table.{entryAt, entryFits, entriesFrom, tableOf}
 use Rattle.image.specs.Records.{recordHolds, recordsFrom, imageOf}
-use Rattle.image.specs.Rest.{restFrom, restOf}
+use Rattle.image.specs.Rest.{bodyWalk, restFrom, restOf}
 use Rattle.image.specs.Fetch.{instructionAt, fetchOf}
 use Rattle.inputs.specs.Checks.{windowHolds, secondHolds, apartHolds, windowsVerdict, stepVerdict}
 use Rattle.accesses.specs.Reach.{alignedReach, reachOf}
@@ -80,6 +81,6 @@ still s h = record { stores = s; heads = h }
 
 -- the fifth step is refused
 pub quiet : AllQuiet (listed begun) (allArgs calls start)
-unfolding bit isSet counterBits counts overflowsUp underflowsDown nested calledOf icrOf pcxiOf requests clearedOf wordAt wordsAt putWord putWords plusOf placedAt spotAt placedIn upperOf lowerOf roomAt takeOf foreseenOf saveAtOf saveOf loadOf returnOf stackOf enteredOf trapEntry interruptEntry interruptOf trapOf fcdOf betterOf bestBelow takes clearedAt enables permits firstOf anyFrom checkOf operationOf entryAt entryHolds entriesFrom tableOf recordHolds recordsFrom imageOf restFrom restOf instructionAt fetchOf windowHolds secondHolds apartHolds windowsVerdict stepVerdict calledThen callOf svlcxOf bisrThen bisrOf previousOf retOf rfeOf rslcxOf contextOp alignedReach reachOf storeOf actOf finishOf executeOf instructionOf oneOf requestsOf stepOf runFrom runOf runArgs stepHeads decisionOf
+unfolding bit isSet counterBits counts overflowsUp underflowsDown nested calledOf icrOf pcxiOf requests clearedOf wordAt wordsAt putWord putWords plusOf placedAt spotAt placedIn upperOf lowerOf roomAt takeOf foreseenOf saveAtOf saveOf loadOf returnOf stackOf enteredOf trapEntry interruptEntry interruptOf trapOf fcdOf betterOf bestBelow takes clearedAt enables permits firstOf anyFrom checkOf operationOf entryAt addressAfter lengthOf operationNumber entryFits entriesFrom tableOf recordHolds recordsFrom imageOf bodyWalk restFrom restOf instructionAt fetchOf windowHolds secondHolds apartHolds windowsVerdict stepVerdict calledThen callOf svlcxOf bisrThen bisrOf previousOf retOf rfeOf rslcxOf contextOp alignedReach reachOf storeOf actOf finishOf executeOf instructionOf oneOf requestsOf stepOf runFrom runOf runArgs stepHeads decisionOf
 quiet =
     (still tt refl, (still tt refl, (still away refl, (still tt refl, (tt, (still tt refl, (still tt refl, (still tt refl, (still tt refl, (still tt refl, (still tt refl, (still tt refl, tt))))))))))))

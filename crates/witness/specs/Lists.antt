@@ -39,7 +39,7 @@ begun = lists (area0 ∷ area1 ∷ area2 ∷ []) (usedUpper ∷ usedLower ∷ []
 abbrev pub depleted : AbstractLists
 depleted =
     lists []
-    (saved area2 0x094C_0000 0x0000_0A81 0x9000_0000 0x8000_0124
+    (saved area2 0x094C_0000 0x0000_0A81 0x9000_0000 0x8000_0122
     ∷ saved area1 0x05CD_0000 0x0000_0A80 0x9000_0000 0x8000_0000
     ∷ saved area0 0x02CC_0001 0x0000_0981 0x2B 0x8000_0004
     ∷ usedUpper

@@ -57,6 +57,11 @@ RSLCX = instruction 69 0 0 0 0
 abbrev pub BISR : List ℕ
 BISR = instruction 70 0 0 0 7
 
+-- the short form of a record
+abbrev pub short : List ℕ → List ℕ
+short [] = []
+short (w ∷ ws) = (w + 128) ∷ ws
+
 -- an entry: load address, records, offset
 abbrev pub entry : ℕ → ℕ → ℕ → List ℕ
 entry load records offset = load ∷ records ∷ offset ∷ []
@@ -68,17 +73,17 @@ image words are = record { bytes = inBytes words; are = bytes-by (inBytes words)
 abbrev pub interrupted : Image
 interrupted = image (1 ∷ (entry 0x8000_0000 1 16 ++ NOP)) _
 
--- at the interrupt's vector CALL; at that of class 3 ST.W, SVLCX
+-- at the interrupt's vector a short CALL; at that of class 3 a short ST.W, SVLCX
 abbrev pub depleting : Image
-depleting = image (2 ∷ (entry 0x8000_0060 2 28 ++ entry 0x8000_0120 1 44 ++ ST·W ++ SVLCX ++ CALL)) _
+depleting = image (2 ∷ (entry 0x8000_0060 2 28 ++ entry 0x8000_0120 1 44 ++ short ST·W ++ SVLCX ++ short CALL)) _
 
 -- no bytes at all
 abbrev pub nothing : Image
 nothing = image [] _
 
--- RFE to the call's target, RET, RFE to the interrupted instruction, RET, RSLCX
+-- RFE to the call's target, after a short form that is passed over; a short RET, RFE to the interrupted instruction, RET, RSLCX
 abbrev pub unwinding : Image
-unwinding = image (3 ∷ (entry 0x8000_0000 2 40 ++ entry 0x8000_0064 1 56 ++ entry 0x8000_0120 2 64 ++ RET ++ RSLCX ++ RFE ++ RET ++ RFE)) _
+unwinding = image (3 ∷ (entry 0x8000_0000 2 40 ++ entry 0x8000_0060 2 56 ++ entry 0x8000_0120 2 72 ++ RET ++ RSLCX ++ short NOP ++ RFE ++ short RET ++ RFE)) _
 
 -- after these
 abbrev pub onward : Image

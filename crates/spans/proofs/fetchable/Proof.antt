@@ -8,7 +8,7 @@ use Rattle.spans.proofs.fetchable.Statement.{statement}
 use Rattle.spans.proofs.fetchable.Tie as tie
 
 returns : tie.Need-returns
-returns c = all-unasked _ _ _ _ (c .before .before .before .pre .1) (c .before .before .before .pre .2) (sym (c .before .protection .ensures) ∙ not-true _ (c .if1 .taken))
+returns c = all-unasked _ _ _ _ (c .before .before .before .pre .1) (sym (c .before .protection .ensures) ∙ not-true _ (c .if1 .taken))
 
 mul-records-below : tie.Need-mul-records-below
 mul-records-below c = let h = range-below (c .before .before .before .before .before .before .before .before .before .args .words .now) (c .before .before .before .before .before .before .before .before .before .args .core .now) _ _ ((rw (c .before .before .before .before .protection-set .ensures .0) at (rw (c .before .k .given .1) at (c .before .before .before .search .ensures .1 .says))) .one) in omega arith
@@ -26,13 +26,13 @@ records-below-requires : tie.Need-records-below-requires
 records-below-requires c κs = below-bound (c .before .before .before .before .before .before .before .before .before .before .args .words .now) (c .before .before .before .before .before .before .before .before .before .before .args .core .now) _ _ ((rw (c .before .before .before .before .before .protection-set .ensures .0) at (rw (c .before .before .k .given .1) at (c .before .before .before .before .search .ensures .1 .says))) .one)
 
 returns-2 : tie.Need-returns-2
-returns-2 c = by-range _ _ _ _ (c .before .before .before .before .before .before .before .before .before .before .before .before .pre .1) (c .before .before .before .before .before .before .before .before .before .before .before .before .pre .2) _ _ (sym (c .before .before .before .before .before .before .before .before .before .before .protection .ensures) ∙ not-false _ (c .before .before .before .before .before .before .before .before .before .if1 .left)) ((rw (c .before .before .before .before .before .before .before .protection-set .ensures .0) at (rw (c .before .before .before .before .k .given .1) at (c .before .before .before .before .before .before .search .ensures .1 .says))) .one) (c .before .records-below .ensures .0) (omega (arith, c .if2 .taken)) (omega (arith, c .before .records-below .ensures .1, upper-is (c .before .before .before .before .before .before .before .before .before .before .before .before .args .words .now) (c .before .before .before .before .before .before .before .before .before .before .before .before .args .core .now) _ _ ((rw (c .before .before .before .before .before .before .before .protection-set .ensures .0) at (rw (c .before .before .before .before .k .given .1) at (c .before .before .before .before .before .before .search .ensures .1 .says))) .one)))
+returns-2 c = by-range _ _ _ _ (c .before .before .before .before .before .before .before .before .before .before .before .before .pre .1) _ _ (sym (c .before .before .before .before .before .before .before .before .before .before .protection .ensures) ∙ not-false _ (c .before .before .before .before .before .before .before .before .before .if1 .left)) ((rw (c .before .before .before .before .before .before .before .protection-set .ensures .0) at (rw (c .before .before .before .before .k .given .1) at (c .before .before .before .before .before .before .search .ensures .1 .says))) .one) (c .before .records-below .ensures .0) (omega (arith, c .if2 .taken)) (omega (arith, c .before .records-below .ensures .1, upper-is (c .before .before .before .before .before .before .before .before .before .before .before .before .args .words .now) (c .before .before .before .before .before .before .before .before .before .before .before .before .args .core .now) _ _ ((rw (c .before .before .before .before .before .before .before .protection-set .ensures .0) at (rw (c .before .before .before .before .k .given .1) at (c .before .before .before .before .before .before .search .ensures .1 .says))) .one)))
 
 returns-3 : tie.Need-returns-3
-returns-3 c = the-first _ _ _ _ (c .before .before .before .before .before .before .before .before .pre .1) (c .before .before .before .before .before .before .before .before .pre .2) (c .before .before .before .before .before .before .before .before .pre .0)
+returns-3 c = the-first _ _ _ _ (c .before .before .before .before .before .before .before .before .pre .1) (c .before .before .before .before .before .before .before .before .pre .0)
 
 returns-4 : tie.Need-returns-4
-returns-4 c = by-range _ _ _ _ (c .before .before .before .before .before .before .before .before .before .before .before .before .pre .1) (c .before .before .before .before .before .before .before .before .before .before .before .before .pre .2) _ _ (sym (c .before .before .before .before .before .before .before .before .before .before .protection .ensures) ∙ not-false _ (c .before .before .before .before .before .before .before .before .before .if1 .left)) ((rw (c .before .before .before .before .before .before .before .protection-set .ensures .0) at (rw (c .before .before .before .before .k .given .1) at (c .before .before .before .before .before .before .search .ensures .1 .says))) .one) (c .before .before .before .before .before .before .before .before .before .before .before .before .pre .1) (omega arith) (omega (arith, c .if2 .left, c .before .records-below .ensures .1, upper-is (c .before .before .before .before .before .before .before .before .before .before .before .before .args .words .now) (c .before .before .before .before .before .before .before .before .before .before .before .before .args .core .now) _ _ ((rw (c .before .before .before .before .before .before .before .protection-set .ensures .0) at (rw (c .before .before .before .before .k .given .1) at (c .before .before .before .before .before .before .search .ensures .1 .says))) .one)))
+returns-4 c = by-range _ _ _ _ (c .before .before .before .before .before .before .before .before .before .before .before .before .pre .1) _ _ (sym (c .before .before .before .before .before .before .before .before .before .before .protection .ensures) ∙ not-false _ (c .before .before .before .before .before .before .before .before .before .if1 .left)) ((rw (c .before .before .before .before .before .before .before .protection-set .ensures .0) at (rw (c .before .before .before .before .k .given .1) at (c .before .before .before .before .before .before .search .ensures .1 .says))) .one) (c .before .before .before .before .before .before .before .before .before .before .before .before .pre .1) (omega arith) (omega (arith, c .if2 .left, c .before .records-below .ensures .1, upper-is (c .before .before .before .before .before .before .before .before .before .before .before .before .args .words .now) (c .before .before .before .before .before .before .before .before .before .before .before .before .args .core .now) _ _ ((rw (c .before .before .before .before .before .before .before .protection-set .ensures .0) at (rw (c .before .before .before .before .k .given .1) at (c .before .before .before .before .before .before .search .ensures .1 .says))) .one)))
 
 pub fetchable-spec : {M : Type 1} → statement M
 fetchable-spec =

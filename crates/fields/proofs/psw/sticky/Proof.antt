@@ -1,11 +1,11 @@
 -- `fields::psw::sticky` meets its contract. Assumes nothing.
-use Rattle.fields.proofs.Flags.{number-eqb}
-use native.Mathlib.Omega.{arith}
+use borrow.Author.Needs.{needs}
+use Rattle.fields.proofs.Flags.{joined}
 use Rattle.fields.proofs.psw.sticky.Statement.{statement}
 use Rattle.fields.proofs.psw.sticky.Tie as tie
 
-returns-2 : tie.Need-returns-2
-returns-2 c = let e = number-eqb (c .before .args .old) (c .before .pre) in (rw (c .if1 .left) (omega arith), omega arith)
+returns : tie.Need-returns
+returns c = rw (c .bit-of .ensures .0) (joined (c .before .args .old) (c .before .args .now) (c .before .pre))
 
 pub sticky-spec : {M : Type 1} → statement M
-sticky-spec = tie.close (tie.spec (λ c. (rw (c .if1 .taken), omega arith)) returns-2)
+sticky-spec = tie.close (tie.spec (λ c κs. search needs) (λ c. search needs) returns)

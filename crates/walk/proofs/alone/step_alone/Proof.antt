@@ -6,7 +6,7 @@ use Rattle.walk.proofs.alone.step_alone.Statement.{statement}
 use Rattle.walk.proofs.alone.step_alone.Tie as tie
 
 step-accepted-requires : tie.Need-step-accepted-requires
-step-accepted-requires c κs = rw (append-nil (c .before .before .before .before .args .window .now)) (c .before .before .before .before .pre)
+step-accepted-requires c κs = (rw (append-nil (c .before .before .before .before .args .window .now)) (c .before .before .before .before .pre .0), c .before .before .before .before .pre .1)
 
 returns : tie.Need-returns
 returns c =

@@ -1,0 +1,59 @@
+-- What is looked up of an image beforehand, so that a fetch need not walk a whole body: whether it has short forms, and marks. The fetch's definition knows none of it.
+use Prim.Native.Nat.{ℕ, zero, suc, _+_, _/_, _%_, _^_, _<_}
+use mathlib.Core.Path.{_≡_}
+use mathlib.Core.Bool.{Bool, true, false, not, _&&_}
+use mathlib.Core.List.{List}
+use lib.ListN.{length, getD}
+use Rattle.image.specs.Lengths.{isShort}
+use Rattle.image.specs.Table.{bodiesOf}
+use Rattle.image.specs.Records.{totalOf}
+use Rattle.image.specs.Rest.{Begins}
+use Rattle.image.specs.declared.marks.Guide.{Guide}
+use Rattle.image.specs.declared.records.ImageCheck.{ImageCheck}
+use Rattle.image.specs.declared.records.ImageCheck.the-variants.{Holds, Table, Record}
+
+-- n records from byte `at` on have no short form among them
+unfoldable pub longFrom : ℕ → List ℕ → ℕ → Bool
+longFrom zero img at = true
+longFrom (suc n) img at = not (isShort (getD img at 0)) && longFrom n img (at + 8)
+
+-- an image without short forms
+unfoldable pub longOnly : List ℕ → Bool
+longOnly img = longFrom (totalOf img) img (bodiesOf img)
+
+-- asked of an image that holds alone
+abbrev pub longIn : List ℕ → ImageCheck → Bool
+longIn img Holds = longOnly img
+longIn img (Table p) = false
+longIn img (Record k) = false
+
+-- a mark names an entry, counted from 1, and the index and address of a record of its body
+abbrev pub markEntry : ℕ → ℕ
+markEntry m = m % 2 ^ 32 / 2 ^ 16
+
+abbrev pub markIndex : ℕ → ℕ
+markIndex m = m % 2 ^ 16
+
+abbrev pub markAddress : ℕ → ℕ
+markAddress m = m / 2 ^ 32
+
+-- where the mark for pc stands: for each body as many places as its records would need if none were short, 2 ^ shift addresses for each
+unfoldable pub slotOf : ℕ → ℕ → ℕ → ℕ → ℕ
+slotOf bias entry shift pc = (pc + bias) % 2 ^ 32 / 2 ^ (shift % 32) + entry
+
+-- what it says is so; entry 0 says nothing
+abbrev pub MarkHolds : List ℕ → ℕ → Type 0
+MarkHolds img m = (i : ℕ) → markEntry m ≡ i + 1 → Begins img (markAddress m) i (markIndex m)
+
+pub record MarksHold (img marks : List ℕ) : Type 0 where
+  pub each : (s : ℕ) → s < length marks → MarkHolds img (getD marks s 0)
+
+-- the array of marks that a run has
+pub record Marked (img marks : List ℕ) : Type 0 where
+  pub marks-hold : MarksHold img marks
+  pub size : length marks ≡ 4096
+
+-- what a guide and marks say of an image is so
+pub record Guides (img : List ℕ) (guide : Guide) (marks : List ℕ) : Type 0 where
+  pub long-only : guide .long ≡ true → longOnly img ≡ true
+  pub marks-hold : MarksHold img marks

@@ -1,0 +1,2 @@
+-- Laws of the exported functions.
+pub mod Covers

@@ -1,0 +1,68 @@
+-- `spans::index::index_marked` meets its contract. Assumes nothing.
+use mathlib.Core.Path.{sym, _∙_}
+use Rattle.spans.proofs.Spans.{by-mark}
+use borrow.Author.Needs.{needs}
+use Rattle.spans.proofs.index.index_marked.Statement.{statement}
+use Rattle.spans.proofs.index.index_marked.Tie as tie
+
+slot-of-requires : tie.Need-slot-of-requires
+slot-of-requires c κs = search needs
+
+returns : tie.Need-returns
+returns c = search needs
+
+mul-m : tie.Need-mul-m
+mul-m c = search needs
+
+shared-slice-read-m : tie.Need-shared-slice-read-m
+shared-slice-read-m c = search needs
+
+mark-entry-requires : tie.Need-mark-entry-requires
+mark-entry-requires c κs = search needs
+
+returns-2 : tie.Need-returns-2
+returns-2 c = search needs
+
+mark-index-requires : tie.Need-mark-index-requires
+mark-index-requires c κs = search needs
+
+wrapping-sub-u32-requires : tie.Need-wrapping-sub-u32-requires
+wrapping-sub-u32-requires c κs = search needs
+
+returns-3 : tie.Need-returns-3
+returns-3 c = search needs
+
+mark-address-requires : tie.Need-mark-address-requires
+mark-address-requires c κs = search needs
+
+index-on-requires : tie.Need-index-on-requires
+index-on-requires c κs =
+    let a = c .before .before .before .before .before .before .before .before .before .before .before .before .before .args in
+    let p = c .before .before .before .before .before .before .before .before .before .before .before .before .before .pre in
+    let b = p .0 .body (p .1) in
+    let m = p .2 .each _ (c .before .before .before .before .before .before .before .before .before .if1 .left) (b .entry) (sym (c .before .before .before .before .before .before .before .mark-entry .ensures) ∙ c .before .before .before .before .before .if2 .left ∙ b .is) in
+    record {
+      lies = p .0;
+      inside = c .before .if3 .left;
+      at = c .mark-address .ensures ∙ by-mark (a .image .now) (a .s) (p .0) b _ _ _ m (c .before .before .before .wrapping-sub-u32 .ensures ∙ c .before .before .before .before .mark-index .ensures) (c .before .if3 .left);
+    }
+
+returns-4 : tie.Need-returns-4
+returns-4 c = search needs
+
+pub index-marked-spec : {M : Type 1} → statement M
+index-marked-spec =
+    tie.close
+    (tie.spec
+    slot-of-requires
+    returns
+    mul-m
+    shared-slice-read-m
+    mark-entry-requires
+    returns-2
+    mark-index-requires
+    wrapping-sub-u32-requires
+    returns-3
+    mark-address-requires
+    index-on-requires
+    returns-4)
