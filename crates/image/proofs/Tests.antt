@@ -9,9 +9,9 @@ use mathlib.Core.Bool.{Bool, true, false, not, _&&_, _||_}
 use mathlib.Core.Logic.{⊎-elim}
 use mathlib.Core.List.{List}
 use Rattle.words.proofs.Truth.{never, both-true, either-true}
-use borrow.Author.Tests.{leb-true, eqb-true, ltb-true, lt-ltb, le-leb, lt-leb, eq-eqb, ne-eqb}
+use borrow.Author.Tests.{leb-true, eqb-true, ltb-true, lt-ltb, le-ltb, le-leb, lt-leb, eq-eqb, ne-eqb}
 use lib.ListN.{length, getD}
-use lib.Dec.{leb, eqb}
+use lib.Dec.{ltb, leb, eqb}
 use Rattle.operations.specs.Operations.{operations, operationOf, compares}
 use Rattle.image.specs.Table.{rangeEnd, entryFits, entryHolds}
 use Rattle.memory.specs.Word.{wordAt}
@@ -63,8 +63,7 @@ module _ (img : List ℕ) (e : Entry) (start floor : ℕ) where
   pub right-entry : EntryRight img e start floor → entryHolds img e start floor ≡ true
   unfolding entryFits
   right-entry r =
-      rw
-      (
+      rw (
         eq-eqb (e .load % 4) 0 (r .aligned),
         le-leb 1 (e .records) (r .some),
         le-leb (e .records) 0x1_0000 (r .most),
@@ -147,8 +146,7 @@ module _ (img : List ℕ) (at w : ℕ) (b : (j : ℕ) → getD img j 0 < 256) (e
   pub word-record : recordHolds (operationNumber (w % 256)) (w / 256 % 256) (w / 65536 % 256) (w / 16777216) ≡ recordAt img at
   unfolding wordAt
   word-record =
-      rw
-      (
+      rw (
         e,
         byte-0 (getD img at 0) (getD img (at + 1) 0) (getD img (at + 2) 0) (getD img (at + 3) 0) (b at) (b (at + 1)) (b (at + 2)),
         byte-1 (getD img at 0) (getD img (at + 1) 0) (getD img (at + 2) 0) (getD img (at + 3) 0) (b at) (b (at + 1)) (b (at + 2)),
@@ -159,3 +157,10 @@ module _ (img : List ℕ) (at w : ℕ) (b : (j : ℕ) → getD img j 0 < 256) (e
   pub word-short : isShort (w % 256) ≡ isShort (getD img at 0)
   unfolding wordAt
   word-short = rw (e, byte-0 (getD img at 0) (getD img (at + 1) 0) (getD img (at + 2) 0) (getD img (at + 3) 0) (b at) (b (at + 1)) (b (at + 2)))
+
+pub byte-form : (x : ℕ) → ltb x 128 ≡ not (isShort x)
+byte-form x = by (decLe 128 x)
+  where
+    by : Dec (128 ≤ x) → ltb x 128 ≡ not (isShort x)
+    by (yes h) = rw (le-leb 128 x h, le-ltb x 128 h)
+    by (no h) = let l = lt-of-not-le h in rw (lt-leb 128 x l, lt-ltb x 128 l)

@@ -24,11 +24,26 @@ pub enum ImageCheck {
     Record(u32),
 }
 
-// Whether a record's operation, by its number, and its other bytes are in their bounds. JEQ to JGE.U take no immediate. There is no branch, so that several records are tried at a time.
-fn record_holds(op: u32, c: u32, a: u32, b: u32) -> bool
+// Whether a record's operation, by its number, and its other bytes are in their bounds. JEQ to JGE.U take no immediate.
+fn record_holds(op: u8, c: u8, a: u8, b: u8) -> bool
     ensures { λ r. ⌜ r ≡ recordHolds op c a b ⌝ }
 {
-    is_operation(op) & (c <= 15) & (a <= 15) & (b <= 16) & ((b <= 15) | !is_compare(op))
+    if !is_operation(op as u32) {
+        return false;
+    }
+    if 15 < c {
+        return false;
+    }
+    if 15 < a {
+        return false;
+    }
+    if b < 16 {
+        return true;
+    }
+    if 16 < b {
+        return false;
+    }
+    !is_compare(op as u32)
 }
 
 // What a pass over all records finds: that each holds, and whether none is a short form.
@@ -37,16 +52,17 @@ struct Scan {
     long: bool,
 }
 
-// Whether the record with that first word holds.
+// Whether the record with that first word holds. There is no branch, so that several records are tried at a time.
 fn word_holds(w: u32) -> bool
     ensures { λ r. ⌜ r ≡ recordHolds (operationNumber (w % 256)) (w / 256 % 256) (w / 65536 % 256) (w / 16777216) ⌝ }
 {
-    record_holds(
-        w % 0x80,
-        w / 0x100 % 0x100,
-        w / 0x1_0000 % 0x100,
-        w / 0x100_0000,
-    )
+    let op = w % 0x80;
+    let b = w / 0x100_0000;
+    is_operation(op)
+        & (w / 0x100 % 0x100 <= 15)
+        & (w / 0x1_0000 % 0x100 <= 15)
+        & (b <= 16)
+        & ((b <= 15) | !is_compare(op))
 }
 
 // Whether it is that of a long record.
@@ -56,7 +72,7 @@ fn word_long(w: u32) -> bool
     w / 0x80 % 2 == 0
 }
 
-// One pass over all records.
+// One pass over all records, several at a time.
 fn scan_all(image: &[u8]) -> Scan
     requires { ⌜ tableOf (now image) ≡ TableCheck.Holds ⌝ }
     ensures { λ r. ⌜ ((r .hold ≡ true) → recordsFrom (totalOf (now (image .entry))) (now (image .entry)) (bodiesOf (now (image .entry))) 0 ≡ ImageCheck.Holds) × (r .long ≡ longOnly (now (image .entry))) ⌝ }
@@ -79,35 +95,52 @@ fn scan_all(image: &[u8]) -> Scan
     }
 }
 
-// The first record at fault, if one is.
-fn first_fault(image: &[u8]) -> ImageCheck
-    requires { ⌜ tableOf (now image) ≡ TableCheck.Holds ⌝ }
-    ensures { λ r. ⌜ r ≡ recordsFrom (totalOf (now (image .entry))) (now (image .entry)) (bodiesOf (now (image .entry))) 0 ⌝ }
-{
-    let n = word_at(image, 0);
-    let mut at = 4 + 12 * n as usize;
-    let mut k: u32 = 0;
-    while at < image.len() {
-        if !word_holds(word_at(image, at)) {
-            return ImageCheck::Record(k);
-        }
-        at += 8;
-        k += 1;
-    }
-    ImageCheck::Holds
-}
-
 // The rules' answer, and whether the image has no short form.
 pub struct ImageScan {
     pub check: ImageCheck,
     pub long: bool,
 }
 
-// The records, after the table. The first at fault is looked for only where one is.
+// The records, one by one, to the first at fault.
+fn scan_each(image: &[u8]) -> ImageScan
+    requires { ⌜ tableOf (now image) ≡ TableCheck.Holds ⌝ }
+    ensures { λ r. ⌜ (r .check ≡ recordsFrom (totalOf (now (image .entry))) (now (image .entry)) (bodiesOf (now (image .entry))) 0) × (r .long ≡ longIn (now (image .entry)) (r .check)) ⌝ }
+{
+    let n = word_at(image, 0);
+    let mut at = 4 + 12 * n as usize;
+    let mut k: u32 = 0;
+    let mut long = true;
+    while at < image.len() {
+        let op = image[at];
+        if !record_holds(
+            operation_number(op),
+            image[at + 1],
+            image[at + 2],
+            image[at + 3],
+        ) {
+            return ImageScan {
+                check: ImageCheck::Record(k),
+                long: false,
+            };
+        }
+        long = long & (op < 128);
+        at += 8;
+        k += 1;
+    }
+    ImageScan {
+        check: ImageCheck::Holds,
+        long: long,
+    }
+}
+
+// The records, after the table. Those of a large image are tried several at a time, and one by one only where some record does not hold.
 fn scan_records(image: &[u8]) -> ImageScan
     requires { ⌜ tableOf (now image) ≡ TableCheck.Holds ⌝ }
     ensures { λ r. ⌜ (r .check ≡ recordsFrom (totalOf (now (image .entry))) (now (image .entry)) (bodiesOf (now (image .entry))) 0) × (r .long ≡ longIn (now (image .entry)) (r .check)) ⌝ }
 {
+    if image.len() < 0x200 {
+        return scan_each(image);
+    }
     let s = scan_all(image);
     if s.hold {
         return ImageScan {
@@ -115,22 +148,7 @@ fn scan_records(image: &[u8]) -> ImageScan
             long: s.long,
         };
     }
-    let check = first_fault(image);
-    ImageScan {
-        check: check,
-        long: long_in(check, s.long),
-    }
-}
-
-// Of an image that is refused nothing is told.
-fn long_in(check: ImageCheck, long: bool) -> bool
-    ensures { λ r. ⌜ ((img : List ℕ) → long ≡ longOnly img → r ≡ longIn img check) ⌝ }
-{
-    match check {
-        ImageCheck::Holds => long,
-        ImageCheck::Table(_) => false,
-        ImageCheck::Record(_) => false,
-    }
+    scan_each(image)
 }
 
 // The image: its table, then each record.

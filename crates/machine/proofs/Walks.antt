@@ -1,9 +1,9 @@
 -- Instructions of a span, one after the other.
 -- Assumes nothing.
-use Prim.Native.Nat.{ℕ, suc, _+_, _-_, _*_, _≤_, _<_}
+use Prim.Native.Nat.{ℕ, suc, _+_, _-_, _*_, _%_, _^_, _≤_, _<_}
 use native.Mathlib.Omega.{arith}
 use mathlib.Core.Path.{_≡_, refl, sym, ap, subst, _∙_}
-use mathlib.Core.Bool.{Bool, true, false}
+use mathlib.Core.Bool.{Bool, true, false, cond}
 use mathlib.Core.List.{List}
 use Rattle.words.proofs.Truth.{never}
 use Rattle.memory.specs.Memory.{Memory}
@@ -17,7 +17,9 @@ use Rattle.events.specs.declared.event.Ending.the-variants as ending
 use Rattle.protection.specs.declared.range.Range.{Range}
 use Rattle.interrupts.specs.Sources.{bestOf, takes}
 use Rattle.image.proofs.Addresses.{after-none}
-use Rattle.image.specs.Fetch.{instructionAt}
+use Rattle.image.specs.Lengths.{lengthAt}
+use Rattle.image.specs.Rest.{IndexSays}
+use Rattle.image.specs.Fetch.{nextAfter, instructionAt}
 use Rattle.image.specs.declared.fetch.Instruction.{Instruction}
 use Rattle.entries.specs.Entry.{MadeOf}
 use Rattle.execute.specs.Execute.{executeOf}
@@ -26,13 +28,13 @@ use Rattle.execute.specs.declared.Executed.{Executed}
 use Rattle.execute.specs.declared.Executed.the-variants as executed
 use Rattle.decisions.specs.Phases.{oneOf, instructionOf, requestsOf}
 use Rattle.machine.specs.Run.{runFrom}
-use Rattle.spans.specs.Spans.{begin, SpanHolds, IndexIn}
+use Rattle.spans.specs.Spans.{begin, Lies, SpanHolds, IndexIn, Current, PlaceIn}
 use Rattle.machine.specs.Inner.{Ready, paced, pacedAfter, Paces}
 use Rattle.machine.specs.declared.answer.Outcome.{Outcome}
 use Rattle.machine.specs.declared.answer.Outcome.the-variants as outcome
 use Rattle.spans.specs.declared.Span.{Span}
 use Rattle.machine.proofs.Turns.{ready-next, run-made, run-stopped, run-last, quiet-one, quiet-requests}
-use Rattle.spans.proofs.Spans.{in-span, span-steady}
+use Rattle.spans.proofs.Spans.{in-span, span-steady, index-by, counted-long, next-begins, long-four}
 
 module _ (n : ℕ) (img : List ℕ) (rs : List Range) (r₀ : Registers) (m₀ : Memory) where
   -- no interrupt is taken before the first step
@@ -154,3 +156,71 @@ module _ (n : ℕ) (img : List ℕ) (rs : List Range) (r₀ : Registers) (m₀ :
           at = i l;
         }
     walk-next t is (executed.Ended y) e z x h j i l = absurd (never (sym z))
+
+    -- the record at byte at + 8 * k is the walk's, and covers so many addresses. Among long ones k is its index; otherwise it is 0, and `from` is the address after the record
+    pub record Goes (left at k covers from : ℕ) (r : Registers) (m : Memory) : Type 0 where
+      pub index : ℕ
+      pub walk : Walk left index r m
+      pub stands : at + 8 * k ≡ s .at + 8 * index
+      pub length-is : covers ≡ lengthAt img (at + 8 * k)
+      pub by-index : long ≡ true → (from ≡ s .from) × (at ≡ s .at)
+      pub by-record : long ≡ false → Current img s at from
+
+    pub goes-first : {covers from : ℕ} → (w : Walk n 0 r₀ m₀) → covers ≡ lengthAt img (s .at) → from ≡ cond long (s .from) ((s .from + covers) % 2 ^ 32) → Goes n (s .at) 0 covers from r₀ m₀
+    goes-first {covers} {from} w e f =
+        let z : s .at + 8 * 0 ≡ s .at = omega arith in
+        let y = w .span .lies in
+        let b1 = rw z at (next-begins img s y 0 (s .from) (w .inside) (sym (after-none img (s .at) (s .from)))) in
+        record {
+          index = 0;
+          walk = w;
+          stands = refl;
+          length-is = rw z e;
+          by-index = λ b. (f ∙ rw b, refl);
+          by-record = λ b.
+              record {
+                index = 0;
+                inside = w .inside;
+                stands = sym z;
+                ends = f ∙ rw (b, e) b1;
+              };
+        }
+
+    goes-is : {left at k covers from next : ℕ} {r : Registers} {m : Memory} → Goes left at k covers from r m → next ≡ (pc r + covers) % 2 ^ 32 → next ≡ nextAfter img (at + 8 * k) (pc r)
+    goes-is g e = e ∙ rw (g .length-is)
+
+    pub goes-read : {left at k covers from next : ℕ} {r : Registers} {m : Memory} (g : Goes left at k covers from r m) {i : Instruction} → next ≡ (pc r + covers) % 2 ^ 32
+        → ((p : ℕ) → next ≡ nextAfter img (at + 8 * k) p → i ≡ instructionAt img (at + 8 * k) p) → i ≡ instructionAt img (s .at + 8 * g .index) (pc r)
+    goes-read {left} {at} {k} {covers} {from} {next} {r} g e f = rw (g .stands) at (f (pc r) (goes-is g e))
+
+    -- a record of an index, among long ones
+    pub goes-index : {left at k covers from j : ℕ} {r : Registers} {m : Memory} → Goes left at k covers from r m → {q : Registers} {w : Memory} {l : ℕ} → j < s .long
+        → (IndexSays from (pc q) j) → (((j < s .records) → IndexIn img s (pc q) j → Walk l j q w)) → Goes l at j covers from q w
+    goes-index {left} {at} {k} {covers} {from} {j} g {q} {w} {l} h i f =
+        let y = g .walk .span .lies in
+        let c = counted-long img s y j h in
+        let b = g .by-index (c .0) in
+        let d = f (c .1) (index-by img s y (c .0) (pc q) j (rw (b .0) at i)) in
+        record {
+          index = j;
+          walk = d;
+          stands = rw (b .1);
+          length-is = g .length-is ∙ rw (g .stands, b .1, long-four img s y (c .0) (g .index) (g .walk .inside), long-four img s y (c .0) j (c .1));
+          by-index = g .by-index;
+          by-record = λ e. absurd (never (sym (c .0) ∙ e));
+        }
+
+    -- a record at a byte, among others
+    pub goes-place : {at covers from : ℕ} {q : Registers} {w : Memory} {l : ℕ} → Lies img long s → (long ≡ true → at ≡ s .end) → at < s .end → PlaceIn img s (pc q) at
+        → ((k : ℕ) → k < s .records → IndexIn img s (pc q) k → Walk l k q w) → covers ≡ lengthAt img at → from ≡ (pc q + covers) % 2 ^ 32 → Goes l at 0 covers from q w
+    goes-place {at} {covers} {from} {q} {w} {l} y b h p f e u =
+        let (k, i, st, x) = p h in
+        let z : at + 8 * 0 ≡ at = omega arith in
+        record {
+          index = k;
+          walk = f k i (λ _. x);
+          stands = z ∙ st;
+          length-is = rw z e;
+          by-index = λ t. absurd (let o = b t in omega arith);
+          by-record = λ t. record { index = k; inside = i; stands = st; ends = u ∙ rw (e, st) (next-begins img s y k (pc q) i x) };
+        }

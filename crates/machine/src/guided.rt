@@ -91,7 +91,7 @@ pub fn run_guided(
                 requests,
                 words,
                 n,
-                    );
+            );
         }
     }
     let none = [0; 1];

@@ -9,8 +9,8 @@ use execute::ending_of;
 use execute::execute_instruction;
 use execute::steady;
 use image::fetch::index_from;
-use image::fetch::next_after;
 use image::fetch::read_record;
+use image::lengths::length_of;
 use image::marks::Guide;
 use interrupts::Best;
 use interrupts::best_source;
@@ -20,7 +20,8 @@ use registers::ICR;
 use registers::PC;
 use spans::Ahead;
 use spans::Span;
-use spans::index::index_at;
+use spans::index::first_from;
+use spans::index::place_at;
 use spans::look_ahead;
 ghost use mathlib.Core.Path.{_≡_};
 ghost use Prim.Native.Nat.{_<_};
@@ -63,11 +64,13 @@ fn steady_steps(
     requires { ⌜ (s .from ≡ pc (registers (now d) (now a) (now core))) × (0 < s .records) × (0 < n) ⌝ }
     ensures { λ r. ⌜ Paces n (now (image .entry)) (rangesIn (now (words .entry))) (registers (now (d .entry)) (now (a .entry)) (now (core .entry))) (lent base (now (window .entry)) base2 (now (window2 .entry))) r (registers (now (d .exit)) (now (a .exit)) (now (core .exit))) (lent base (now (window .exit)) base2 (now (window2 .exit))) ⌝ }
 {
-    let at = s.at;
+    let mut at = s.at;
     let mut left = n;
     let mut k: u32 = 0;
-    let mut next = next_after(image, at, core[PC]);
+    let mut covers = length_of(image[at]);
+    let mut from = first_from(guide.long, s.from, covers);
     loop {
+        let next = std::num::wrapping_add_u32(core[PC], covers);
         let i = read_record(image, at + 8 * k as usize, next);
         let done = execute_instruction(base, window, base2, window2, d, a, core, words, i);
         let ending = ending_of(done);
@@ -91,20 +94,20 @@ fn steady_steps(
             };
         }
         let pc = core[PC];
-        let j = index_from(s.from, pc);
-        if j < s.long {
-            k = j;
-            next = std::num::wrapping_add_u32(pc, 4);
+        k = index_from(from, pc);
+        if k < s.long {
             continue;
         }
-        k = index_at(image, guide, marks, s, k, next, pc);
-        if s.records <= k {
+        at = place_at(image, guide, marks, s, at, from, pc);
+        if s.end <= at {
             return Paced {
                 ending: ending,
                 left: left,
             };
         }
-        next = next_after(image, at + 8 * k as usize, pc);
+        k = 0;
+        covers = length_of(image[at]);
+        from = std::num::wrapping_add_u32(pc, covers);
     }
 }
 
@@ -237,7 +240,20 @@ fn run_by_reference(
             best = best_source(requests);
             continue;
         }
-        let p = instructions(base, window, base2, window2, image, guide, marks, d, a, core, words, left);
+        let p = instructions(
+            base,
+            window,
+            base2,
+            window2,
+            image,
+            guide,
+            marks,
+            d,
+            a,
+            core,
+            words,
+            left,
+        );
         let ending = p.ending;
         let Ending::Made(e) = ending else {
             return Went {

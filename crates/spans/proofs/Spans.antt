@@ -5,7 +5,7 @@ use native.Mathlib.Omega.{arith}
 use mathlib.Core.Path.{_≡_, refl, sym, ap, subst, _∙_}
 use mathlib.Core.Bool.{Bool, true, false, cond}
 use mathlib.Core.List.{List}
-use lib.ListN.{getD}
+use lib.ListN.{length, getD}
 use Rattle.fields.specs.Psw.{PSW·PRS}
 use Rattle.fields.specs.Syscon.{SYSCON·PROTEN}
 use Rattle.memory.specs.Memory.{Memory}
@@ -37,7 +37,7 @@ use Rattle.entries.specs.Entry.{trapOf}
 use Rattle.acts.specs.Steady.{Steady}
 use Rattle.execute.specs.Execute.{executeOf}
 use Rattle.decisions.specs.Phases.{instructionOf}
-use Rattle.spans.specs.Spans.{Fetchable, begin, LiesInBody, Lies, Stretches, SpanHolds, IndexIn}
+use Rattle.spans.specs.Spans.{Fetchable, begin, LiesInBody, Lies, Stretches, SpanHolds, IndexIn, Current, PlaceIn}
 use Rattle.spans.specs.declared.Span.{Span}
 
 -- ---- of the records from pc on, those that protection lets be fetched
@@ -84,6 +84,10 @@ in-body img g pc b e i h =
     let n : b .rest .records ≡ entryAt img (b .entry) .records - j = ap (λ (x : Rest). x .records) r in
     (s, ap (λ (x : Rest). x .at) r, omega arith)
 
+-- the records from pc on end in the image
+pub rest-ends : (img : List ℕ) → ImageRight img → (pc : ℕ) (b : InBody) → b .rest ≡ restOf img pc → 0 < b .rest .records → b .rest .at + 8 * b .rest .records ≤ length img
+rest-ends img g pc b e h = rw e (rest-bounds img g pc (rw e at h) .inside)
+
 pub span-of : {img core : List ℕ} {rs : List Range} (pc n : ℕ) (long : Bool) (s : Span) → ImageRight img → (long ≡ true → longOnly img ≡ true) → 0 < restOf img pc .records → Fetchable core rs pc (restOf img pc .records) n
     → Stretches img long pc n (restOf img pc .at) s → SpanHolds img long core rs s
 span-of {img} {core} {rs} pc n long s g p h f t =
@@ -102,6 +106,7 @@ span-of {img} {core} {rs} pc n long s g p h f t =
             most = omega (arith, b .most, t .records);
             below = rw (t .from, t .at-is, t .records) (omega (arith, after-less n most img at pc w, b .below));
             inside = rw (t .at-is, t .records) (omega (arith, b .inside));
+            ends = rw (t .at-is, t .records) (t .ends);
             counted = rw (t .records) (t .counted);
             each = λ e j l. rw (t .from, t .at-is) (rest-long img g (p e) pc j h (omega (arith, t .records)));
             body = t .body;
@@ -172,7 +177,7 @@ module _ (img : List ℕ) (s : Span) where
         by true e = (refl, omega arith)
         by false e = absurd (omega arith)
 
-    -- the address after a record: its own length on, 4 where all are long
+    -- the address after a record, and the length where all are long
     pub next-begins : (k p : ℕ) → k < s .records → p ≡ begin img s k → nextAfter img (s .at + 8 * k) p ≡ begin img s (k + 1)
     next-begins k p l e =
         let m = after-plus k img (s .at) (s .from) in
@@ -180,16 +185,23 @@ module _ (img : List ℕ) (s : Span) where
         let w = y .below in
         omega arith
 
-    pub next-long : long ≡ true → (k p : ℕ) → k < s .records → (p + 4) % 2 ^ 32 ≡ nextAfter img (s .at + 8 * k) p
-    next-long e k p l =
-        let four : lengthOf (getD img (s .at + 8 * k) 0) ≡ 4 = omega (arith, y .each e k (omega arith), y .each e (k + 1) (omega arith), after-plus k img (s .at) (s .from)) in
-        rw four
+    pub long-four : long ≡ true → (k : ℕ) → k < s .records → lengthOf (getD img (s .at + 8 * k) 0) ≡ 4
+    long-four e k l = omega (arith, y .each e k (omega arith), y .each e (k + 1) (omega arith), after-plus k img (s .at) (s .from))
 
     pub here-below : (j a : ℕ) → Here j a → a ≤ 0xE000_0000
     here-below j a h = omega (arith, h .at, y .below, after-less j (s .records) img (s .at) (s .from) (h .within))
 
     pub here-up : (j a x : ℕ) → Here j a → (j ≡ s .records → ⊥) → x ≡ lengthOf (getD img (s .at + 8 * j) 0) → Here (j + 1) (a + x)
     here-up j a x h n e = record { within = (let w = h .within in omega (arith, n)); at = omega (arith, h .at, after-plus j img (s .at) (s .from)) }
+
+    -- the record after another, and one by its index, as a byte of the image
+    pub place-next : (at next pc : ℕ) → Current img s at next → pc ≡ next → PlaceIn img s pc (at + 8)
+    place-next at next pc c e h =
+        let i = c .inside in
+        (c .index + 1, omega (arith, c .stands, y .ends), omega (arith, c .stands), e ∙ c .ends)
+
+    pub place-index : (pc j : ℕ) → IndexIn img s pc j → PlaceIn img s pc (s .at + 8 * j)
+    place-index pc j i h = let l : j < s .records = omega (arith, y .ends) in (j, l, refl, i l)
 
     -- the record that a mark of the span's body names
     pub by-mark : (b : LiesInBody img s) (a j k : ℕ) → Begins img a (b .entry) j → (k + s .first) % 2 ^ 32 ≡ j → k < s .records → a ≡ begin img s k

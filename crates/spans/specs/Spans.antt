@@ -46,6 +46,7 @@ pub record Lies (img : List ℕ) (long : Bool) (s : Span) : Type 0 where
   pub most : s .records ≤ 0x1_0000
   pub below : begin img s (s .records) ≤ 0xE000_0000
   pub inside : s .at + 8 * s .records ≤ length img
+  pub ends : s .end ≡ s .at + 8 * s .records
   pub counted : s .long ≡ cond long (s .records) 0
   pub each : long ≡ true → (j : ℕ) → j ≤ s .records → begin img s j ≡ s .from + 4 * j
   pub body : long ≡ false → LiesInBody img s
@@ -55,6 +56,7 @@ pub record Stretches (img : List ℕ) (long : Bool) (pc n at : ℕ) (s : Span) :
   pub from : s .from ≡ pc
   pub records : s .records ≡ n
   pub at-is : s .at ≡ at
+  pub ends : s .end ≡ at + 8 * n
   pub counted : s .long ≡ cond long n 0
   pub body : long ≡ false → LiesInBody img s
 
@@ -74,6 +76,17 @@ pub record Placed (img : List ℕ) (long : Bool) (s : Span) (k here : ℕ) : Typ
 -- an index in the span is that of the record that begins at pc
 abbrev pub IndexIn : List ℕ → Span → ℕ → ℕ → Type 0
 IndexIn img s pc k = k < s .records → pc ≡ begin img s k
+
+-- the record at byte `at` is one of the span, and ends at `next`
+pub record Current (img : List ℕ) (s : Span) (at next : ℕ) : Type 0 where
+  pub index : ℕ
+  pub inside : index < s .records
+  pub stands : at ≡ s .at + 8 * index
+  pub ends : next ≡ begin img s (index + 1)
+
+-- a byte in the span is that at which the record stands that begins at pc
+abbrev pub PlaceIn : List ℕ → Span → ℕ → ℕ → Type 0
+PlaceIn img s pc at = at < s .end → (k : ℕ) × (k < s .records) × (at ≡ s .at + 8 * k) × (pc ≡ begin img s k)
 
 -- what lies at PC: a span that begins there, or the trap of the instruction's fetch
 abbrev pub Leads : List ℕ → Bool → List ℕ → List Range → Ahead → Type 0

@@ -8,10 +8,10 @@ use image::marks::mark_entry;
 use image::marks::mark_index;
 use image::marks::slot_of;
 ghost use mathlib.Core.Path.{_≡_};
-ghost use mathlib.Core.Bool.{false};
-ghost use Prim.Native.Nat.{_+_, _<_};
+ghost use mathlib.Core.Bool.{true, false, cond};
+ghost use Prim.Native.Nat.{_+_, _%_, _^_};
 ghost use Rattle.image.specs.Marks.{MarksHold};
-ghost use Rattle.spans.specs.Spans.{begin, Lies, Placed, IndexIn};
+ghost use Rattle.spans.specs.Spans.{Lies, Placed, IndexIn, Current, PlaceIn};
 
 // The index of the record that begins at pc, walked to from the one with index k, which begins at `here`: past the span where there is none.
 fn index_on(image: &[u8], long: bool, s: Span, k: u32, here: u32, pc: u32) -> u32
@@ -54,24 +54,34 @@ fn index_marked(image: &[u8], guide: Guide, marks: &[u64], s: Span, pc: u32) -> 
     index_on(image, guide.long, s, k, mark_address(m), pc)
 }
 
-// The index in the span of the record that begins at pc, after the one with index k, which ends at `next`. Past the span where none begins there, where no mark tells, and where all are long.
-pub fn index_at(
+// From where a span's records are counted: among long ones from its first; otherwise from the one after the current one, here after the first.
+pub fn first_from(long: bool, from: u32, covers: u32) -> u32
+    ensures { λ r. ⌜ r ≡ cond long from ((from + covers) % 2 ^ 32) ⌝ }
+{
+    if long {
+        return from;
+    }
+    std::num::wrapping_add_u32(from, covers)
+}
+
+// The byte at which the record stands that begins at pc, after the one at byte `at`, which ends at `next`. Past the span where none begins there, where no mark tells, and where all are long: these are found by their index.
+pub fn place_at(
     image: &[u8],
     guide: Guide,
     marks: &[u64],
     s: Span,
-    k: u32,
+    at: usize,
     next: u32,
     pc: u32,
-) -> u32
-    requires { ⌜ Lies (now image) (guide .long) s × (k < s .records) × (next ≡ begin (now image) s (k + 1)) × MarksHold (now image) (now marks) ⌝ }
-    ensures { λ r. ⌜ IndexIn (now (image .entry)) s pc r ⌝ }
+) -> usize
+    requires { ⌜ Lies (now image) (guide .long) s × (guide .long ≡ false → Current (now image) s at next) × MarksHold (now image) (now marks) ⌝ }
+    ensures { λ r. ⌜ PlaceIn (now (image .entry)) s pc r × (guide .long ≡ true → r ≡ s .end) ⌝ }
 {
-    if pc == next {
-        return k + 1;
-    }
     if guide.long {
-        return s.records;
+        return s.end;
     }
-    index_marked(image, guide, marks, s, pc)
+    if pc == next {
+        return at + 8;
+    }
+    s.at + 8 * index_marked(image, guide, marks, s, pc) as usize
 }

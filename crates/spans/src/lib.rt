@@ -29,11 +29,12 @@ ghost use Rattle.image.specs.Rest.{restOf, InEntry};
 ghost use Rattle.image.specs.Marks.{Guides};
 ghost use Rattle.spans.specs.Spans.{Fetchable, Leads, Stretches};
 
-// So many records from an address on, the first of them at a byte of the image, and how many of them are known to be long: all or none. Where none is, also the body's entry, from 1, the index of the span's first record in the body, and what the body's marks stand by.
+// So many records from an address on, from a byte of the image to another, and how many of them are known to be long: all or none. Where none is, also the body's entry, from 1, the index of the span's first record in the body, and what the body's marks stand by.
 pub struct Span {
     pub from: u32,
     pub records: u32,
     pub at: usize,
+    pub end: usize,
     pub long: u32,
     pub entry: u32,
     pub first: u32,
@@ -95,7 +96,7 @@ fn rest_guided(image: &[u8], guide: Guide, marks: &[u64], pc: u32) -> InBody
 
 // The first n of the records from pc on.
 fn span_of(image: &[u8], long: bool, found: InBody, pc: u32, n: u32) -> Span
-    requires { ⌜ ImageHolds (now image) × (found .rest ≡ restOf (now image) pc) × (long ≡ false → InEntry (now image) pc found) × (0 < found .rest .records) ⌝ }
+    requires { ⌜ ImageHolds (now image) × (found .rest ≡ restOf (now image) pc) × (long ≡ false → InEntry (now image) pc found) × (0 < found .rest .records) × (n ≤ found .rest .records) ⌝ }
     ensures { λ r. ⌜ Stretches (now (image .entry)) long pc n (found .rest .at) r ⌝ }
 {
     let rest = found.rest;
@@ -104,6 +105,7 @@ fn span_of(image: &[u8], long: bool, found: InBody, pc: u32, n: u32) -> Span
             from: pc,
             records: n,
             at: rest.at,
+            end: rest.at + 8 * n as usize,
             long: n,
             entry: 0,
             first: 0,
@@ -115,6 +117,7 @@ fn span_of(image: &[u8], long: bool, found: InBody, pc: u32, n: u32) -> Span
         from: pc,
         records: n,
         at: rest.at,
+        end: rest.at + 8 * n as usize,
         long: 0,
         entry: found.entry + 1,
         first: e.records - rest.records,

@@ -42,8 +42,7 @@ returns-3 c =
     let a = c .before .before .before .before .before .before .before .before .before .before .before .before .args in
     let p = c .before .before .before .before .before .before .before .before .before .before .before .before .pre in
     let e = c .before .before .before .before .before .rest-guided .ensures .0 in
-    let t = rw e at (c .span-of .ensures) in
-    (
+    let t = rw e at (c .span-of .ensures) in (
       t .from,
       rw (t .records) (c .before .fetchable .ensures .some),
       span-of _ _ (a .guide .long) _ (image-right (a .image .now) (p .0)) (p .1 .long-only) (subst (λ (x : Rest). 0 < x .records) e (omega (arith, c .before .before .if1 .left))) (rw e at (c .before .fetchable .ensures)) t,

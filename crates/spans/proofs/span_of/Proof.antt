@@ -3,13 +3,21 @@ use native.Mathlib.Omega.{arith}
 use mathlib.Core.Path.{refl, sym, _∙_}
 use Rattle.words.proofs.Truth.{never}
 use Rattle.image.proofs.Images.{image-right}
-use Rattle.spans.proofs.Spans.{in-body}
+use Rattle.spans.proofs.Spans.{in-body, rest-ends}
 use borrow.Author.Needs.{needs}
 use Rattle.spans.proofs.span_of.Statement.{statement}
 use Rattle.spans.proofs.span_of.Tie as tie
 
+mul-t10 : tie.Need-mul-t10
+mul-t10 c = search needs
+
+add-t11 : tie.Need-add-t11
+add-t11 c =
+    let p = c .before .before .before .before .pre in
+    omega (arith, rest-ends (c .before .before .before .before .args .image .now) (image-right (c .before .before .before .before .args .image .now) (p .0)) (c .before .before .before .before .args .pc) (c .before .before .before .before .args .found) (p .1) (p .3), p .4, c .before .before .before .before .good .0 .0)
+
 returns : tie.Need-returns
-returns c = record { from = refl; records = refl; at-is = refl; counted = rw (c .if1 .taken); body = λ e. absurd (never (sym (c .if1 .taken) ∙ e)) }
+returns c = record { from = refl; records = refl; at-is = refl; ends = refl; counted = rw (c .before .if1 .taken); body = λ e. absurd (never (sym (c .before .if1 .taken) ∙ e)) }
 
 cast-read-entry : tie.Need-cast-read-entry
 cast-read-entry c = search needs
@@ -22,44 +30,53 @@ read-entry-requires c κs =
     let b = in-body img g (c .before .before .before .before .args .pc) (c .before .before .before .before .args .found) (p .1) (p .2 (c .before .if1 .left)) (p .3) in
     omega (arith, g .table .counted .whole, b .0 .0)
 
-add-t10 : tie.Need-add-t10
-add-t10 c =
+mul-t13 : tie.Need-mul-t13
+mul-t13 c = search needs
+
+add-t14 : tie.Need-add-t14
+add-t14 c =
     let p = c .before .before .before .before .before .before .pre in
-    let img = c .before .before .before .before .before .before .args .image .now in
+    omega (arith, rest-ends (c .before .before .before .before .before .before .args .image .now) (image-right (c .before .before .before .before .before .before .args .image .now) (p .0)) (c .before .before .before .before .before .before .args .pc) (c .before .before .before .before .before .before .args .found) (p .1) (p .3), p .4, c .before .before .before .before .before .before .good .0 .0)
+
+add-t15 : tie.Need-add-t15
+add-t15 c =
+    let p = c .before .before .before .before .before .before .before .pre in
+    let img = c .before .before .before .before .before .before .before .args .image .now in
     let g = image-right img (p .0) in
-    let b = in-body img g (c .before .before .before .before .before .before .args .pc) (c .before .before .before .before .before .before .args .found) (p .1) (p .2 (c .before .before .before .if1 .left)) (p .3) in
+    let b = in-body img g (c .before .before .before .before .before .before .before .args .pc) (c .before .before .before .before .before .before .before .args .found) (p .1) (p .2 (c .before .before .before .before .if1 .left)) (p .3) in
     omega (arith, g .table .counted .most, b .0 .0)
 
-sub-t11 : tie.Need-sub-t11
-sub-t11 c =
-    let p = c .before .before .before .before .before .before .before .before .pre in
-    let img = c .before .before .before .before .before .before .before .before .args .image .now in
+sub-t16 : tie.Need-sub-t16
+sub-t16 c =
+    let p = c .before .before .before .before .before .before .before .before .before .pre in
+    let img = c .before .before .before .before .before .before .before .before .before .args .image .now in
     let g = image-right img (p .0) in
-    let b = in-body img g (c .before .before .before .before .before .before .before .before .args .pc) (c .before .before .before .before .before .before .before .before .args .found) (p .1) (p .2 (c .before .before .before .before .before .if1 .left)) (p .3) in
-    rw (c .before .before .before .read-entry .ensures) (b .2)
+    let b = in-body img g (c .before .before .before .before .before .before .before .before .before .args .pc) (c .before .before .before .before .before .before .before .before .before .args .found) (p .1) (p .2 (c .before .before .before .before .before .before .if1 .left)) (p .3) in
+    rw (c .before .before .before .before .read-entry .ensures) (b .2)
 
 bias-of-requires : tie.Need-bias-of-requires
 bias-of-requires c κs = search needs
 
 returns-2 : tie.Need-returns-2
 returns-2 c =
-    let p = c .before .before .before .before .before .before .before .before .before .pre in
-    let img = c .before .before .before .before .before .before .before .before .before .args .image .now in
+    let p = c .before .before .before .before .before .before .before .before .before .before .pre in
+    let img = c .before .before .before .before .before .before .before .before .before .before .args .image .now in
     let g = image-right img (p .0) in
-    let f = c .before .before .before .before .before .before .before .before .before .args .found in
-    let b = in-body img g (c .before .before .before .before .before .before .before .before .before .args .pc) f (p .1) (p .2 (c .before .before .before .before .before .before .if1 .left)) (p .3) in
+    let f = c .before .before .before .before .before .before .before .before .before .before .args .found in
+    let b = in-body img g (c .before .before .before .before .before .before .before .before .before .before .args .pc) f (p .1) (p .2 (c .before .before .before .before .before .before .before .if1 .left)) (p .3) in
     record {
       from = refl;
       records = refl;
       at-is = refl;
-      counted = rw (c .before .before .before .before .before .before .if1 .left);
+      ends = refl;
+      counted = rw (c .before .before .before .before .before .before .before .if1 .left);
       body = λ e.
           record {
             entry = f .entry;
             is = refl;
-            begins = rw (c .before .before .before .before .read-entry .ensures) (b .0);
-            few = rw (c .before .before .before .before .read-entry .ensures) (omega (arith, g .table .entries (f .entry) (b .0 .0) .most, p .3, b .2));
-            place = rw (c .before .before .before .before .read-entry .ensures) (b .1);
+            begins = rw (c .before .before .before .before .before .read-entry .ensures) (b .0);
+            few = rw (c .before .before .before .before .before .read-entry .ensures) (omega (arith, g .table .entries (f .entry) (b .0 .0) .most, p .3, b .2));
+            place = rw (c .before .before .before .before .before .read-entry .ensures) (b .1);
           };
     }
 
@@ -67,10 +84,14 @@ pub span-of-spec : {M : Type 1} → statement M
 span-of-spec =
     tie.close
     (tie.spec
+    mul-t10
+    add-t11
     returns
     cast-read-entry
     read-entry-requires
-    add-t10
-    sub-t11
+    mul-t13
+    add-t14
+    add-t15
+    sub-t16
     bias-of-requires
     returns-2)

@@ -81,8 +81,7 @@ loop-again c =
     let at = bodiesOf img + 8 * l .k in
     let w : c .before .before .word-at2 .result ≡ wordAt img at = rw (← l .inv .0) (c .before .before .word-at2 .ensures) in
     let known : (j : ℕ) → getD img j 0 < 256 = λ j. c .before .before .before .before .before .before .shared-slice-known .given j .fits in
-    let y : bodiesOf img + 8 * (l .k + 1) ≡ bodiesOf img + 8 * l .k + 8 = omega arith in
-    (
+    let y : bodiesOf img + 8 * (l .k + 1) ≡ bodiesOf img + 8 * l .k + 8 = omega arith in (
       l .inv .0,
       l .inv .1,
       omega arith,

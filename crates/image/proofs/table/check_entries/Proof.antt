@@ -105,15 +105,14 @@ loop-again c =
     let img = c .before .before .before .before .before .before .before .before .before .before .before .before .args .image .now in
     let e = c .before .before .before .before .before .before .before .before .read-entry .result in
     let w = sym (c .before .before .before .before .before .before .before .entry-fits .ensures) ∙ not-false _ (c .before .before .before .before .before .before .if1 .left) in
-    let f = fits e (l .start) (length img) w in
-    (
+    let f = fits e (l .start) (length img) w in (
       omega arith,
       omega (arith, f .begins, f .ends),
       f .ends,
       f .most,
       turn-on (c .before .before .before .before .before .before .before .before .before .before .before .before .args .n) img (l .i) (l .start) (rangeEnd img (l .last)) e (c .before .before .before .before .before .before .before .before .read-entry .ensures) (c .before .before .before .before .before .before .before .before .before .loop-test .taken)
-      (holds-by img e (l .start) (rangeEnd img (l .last)) true true true w (sym (c .before .before .before .before .ends-by .ensures) ∙ not-false _ (c .before .before .before .if2 .left)) (sym (c .before .before .ends-by2 .ensures) ∙ not-false _ (c .before .if3 .left)))
-      ∙ l .inv .4,
+          (holds-by img e (l .start) (rangeEnd img (l .last)) true true true w (sym (c .before .before .before .before .ends-by .ensures) ∙ not-false _ (c .before .before .before .if2 .left)) (sym (c .before .before .ends-by2 .ensures) ∙ not-false _ (c .before .if3 .left)))
+          ∙ l .inv .4,
     )
 
 returns-4 : tie.Need-returns-4 Inv-loop μ-loop

@@ -25,8 +25,7 @@ flat-requires c κs = search needs
 
 run-guided-requires : tie.Need-run-guided-requires
 run-guided-requires c κs =
-    let e = sym (c .before .before .before .before .before .before .before .before .before .before .before .before .before .scan-step .ensures .0 .0) ∙ c .before .before .before .before .before .before .before .before .before .before .before .enum-told .given .1 in
-    (
+    let e = sym (c .before .before .before .before .before .before .before .before .before .before .before .before .before .scan-step .ensures .0 .0) ∙ c .before .before .before .before .before .before .before .before .before .before .before .enum-told .given .1 in (
       record {
         accepted = e;
         image = bytes-of (c .before .before .before .before .before .before .before .before .before .before .before .before .before .before .before .before .before .shared-slice-known .given);
@@ -55,14 +54,13 @@ same-length-4 : tie.Need-same-length-4
 same-length-4 c = search needs
 
 returns-2 : tie.Need-returns-2
-returns-2 c =
-    (
-      rw (c .outcome-of .ensures, ← c .before .before .before .before .before .before .before .before .before .before .before .before .before .before .before .before .flat .ensures) (c .before .before .before .before .before .run-guided .ensures ∙ sym (run-accepted _ _ _ _ _ _ (sym (c .before .before .before .before .before .before .before .before .before .before .before .before .before .before .before .before .before .before .before .scan-step .ensures .0 .0) ∙ c .before .before .before .before .before .before .before .before .before .before .before .before .before .before .before .before .before .enum-told .given .1))),
-      (
-        λ x p. absurd (not-refused (c .before .before .before .before .before .run-guided .result .ending) (c .outcome-of .ensures) x p),
-        rw (ending-verdict (c .before .before .before .before .before .run-guided .result .ending) (c .outcome-of .ensures)) (rw (c .before .before .before .before .before .before .before .before .before .before .before .before .before .before .before .before .before .enum-told .given .1) at (c .before .before .before .before .before .before .before .before .before .before .before .before .before .before .before .before .before .before .before .scan-step .ensures .0 .1)),
-      ),
-    )
+returns-2 c = (
+  rw (c .outcome-of .ensures, ← c .before .before .before .before .before .before .before .before .before .before .before .before .before .before .before .before .flat .ensures) (c .before .before .before .before .before .run-guided .ensures ∙ sym (run-accepted _ _ _ _ _ _ (sym (c .before .before .before .before .before .before .before .before .before .before .before .before .before .before .before .before .before .before .before .scan-step .ensures .0 .0) ∙ c .before .before .before .before .before .before .before .before .before .before .before .before .before .before .before .before .before .enum-told .given .1))),
+  (
+    λ x p. absurd (not-refused (c .before .before .before .before .before .run-guided .result .ending) (c .outcome-of .ensures) x p),
+    rw (ending-verdict (c .before .before .before .before .before .run-guided .result .ending) (c .outcome-of .ensures)) (rw (c .before .before .before .before .before .before .before .before .before .before .before .before .before .before .before .before .before .enum-told .given .1) at (c .before .before .before .before .before .before .before .before .before .before .before .before .before .before .before .before .before .before .before .scan-step .ensures .0 .1)),
+  ),
+)
 
 pub run-spec : {M : Type 1} → statement M
 run-spec =

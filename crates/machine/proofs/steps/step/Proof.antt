@@ -22,8 +22,7 @@ enum-told c = search needs
 
 step-accepted-requires : tie.Need-step-accepted-requires
 step-accepted-requires c κs =
-    let e = sym (c .before .before .before .before .scan-step .ensures .0 .0) ∙ c .before .before .enum-told .given .1 in
-    (
+    let e = sym (c .before .before .before .before .scan-step .ensures .0 .0) ∙ c .before .before .enum-told .given .1 in (
       record {
         accepted = e;
         image = bytes-of (c .before .before .before .before .before .before .before .before .shared-slice-known .given);

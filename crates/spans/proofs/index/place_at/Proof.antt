@@ -1,0 +1,54 @@
+-- `spans::index::place_at` meets its contract. Assumes nothing.
+use native.Mathlib.Omega.{arith}
+use mathlib.Core.Path.{refl, sym, _∙_}
+use Rattle.words.proofs.Truth.{never}
+use Rattle.spans.proofs.Spans.{place-next, place-index}
+use borrow.Author.Needs.{needs}
+use Rattle.spans.proofs.index.place_at.Statement.{statement}
+use Rattle.spans.proofs.index.place_at.Tie as tie
+
+returns : tie.Need-returns
+returns c = (λ h. absurd (omega arith), λ e. refl)
+
+add-result : tie.Need-add-result
+add-result c =
+    let p = c .before .before .before .before .pre in
+    let r = p .1 (c .before .if1 .left) in
+    omega (arith, r .inside, r .stands, p .0 .inside, c .before .before .before .before .good .0 .0)
+
+returns-2 : tie.Need-returns-2
+returns-2 c =
+    let p = c .before .before .before .before .pre in
+    let a = c .before .before .before .before .args in
+    (place-next (a .image .now) (a .s) (p .0) (a .at) (a .next) _ (p .1 (c .before .if1 .left)) (c .if2 .taken), λ e. absurd (never (sym e ∙ c .before .if1 .left)))
+
+index-marked-requires : tie.Need-index-marked-requires
+index-marked-requires c κs = search needs
+
+cast-result : tie.Need-cast-result
+cast-result c = search needs
+
+mul-result : tie.Need-mul-result
+mul-result c = search needs
+
+add-result-2 : tie.Need-add-result-2
+add-result-2 c = search needs
+
+returns-3 : tie.Need-returns-3
+returns-3 c =
+    let p = c .before .before .before .before .before .before .pre in
+    let a = c .before .before .before .before .before .before .args in
+    (place-index (a .image .now) (a .s) (p .0) _ _ (c .before .index-marked .ensures), λ e. absurd (never (sym e ∙ c .before .before .before .if1 .left)))
+
+pub place-at-spec : {M : Type 1} → statement M
+place-at-spec =
+    tie.close
+    (tie.spec
+    returns
+    add-result
+    returns-2
+    index-marked-requires
+    cast-result
+    mul-result
+    add-result-2
+    returns-3)
