@@ -8,8 +8,8 @@ use mathlib.Core.Path.{_≡_, refl, sym, ap, _∙_}
 use mathlib.Core.Bool.{Bool, true, false, not, _&&_, _||_}
 use mathlib.Core.Logic.{⊎-elim}
 use mathlib.Core.List.{List}
-use Rattle.words.proofs.Truth.{never, both-true, either-true}
-use borrow.Author.Tests.{leb-true, eqb-true, ltb-true, lt-ltb, le-ltb, le-leb, lt-leb, eq-eqb, ne-eqb}
+use Rattle.words.proofs.Truth.{never, both-true, either-true, either-false}
+use borrow.Author.Tests.{leb-true, eqb-true, eqb-false, ltb-true, lt-ltb, le-leb, lt-leb, eq-eqb, ne-eqb, not-true, not-false}
 use lib.ListN.{length, getD}
 use lib.Dec.{ltb, leb, eqb}
 use Rattle.operations.specs.Operations.{operations, operationOf, compares}
@@ -158,9 +158,40 @@ module _ (img : List ℕ) (at w : ℕ) (b : (j : ℕ) → getD img j 0 < 256) (e
   unfolding wordAt
   word-short = rw (e, byte-0 (getD img at 0) (getD img (at + 1) 0) (getD img (at + 2) 0) (getD img (at + 3) 0) (b at) (b (at + 1)) (b (at + 2)))
 
-pub byte-form : (x : ℕ) → ltb x 128 ≡ not (isShort x)
-byte-form x = by (decLe 128 x)
-  where
-    by : Dec (128 ≤ x) → ltb x 128 ≡ not (isShort x)
-    by (yes h) = rw (le-leb 128 x h, le-ltb x 128 h)
-    by (no h) = let l = lt-of-not-le h in rw (lt-leb 128 x l, lt-ltb x 128 l)
+-- c and a of a record's first word, by their high halves
+module _ (w : ℕ) where
+  result-fits : w / 4096 % 16 ≡ 0 → w / 256 % 256 ≤ 15
+  result-fits e = omega arith
+
+  first-fits : w / 1048576 % 16 ≡ 0 → w / 65536 % 256 ≤ 15
+  first-fits e = omega arith
+
+  result-over : (w / 4096 % 16 ≡ 0 → ⊥) → 15 < w / 256 % 256
+  result-over d = omega arith
+
+  first-over : (w / 1048576 % 16 ≡ 0 → ⊥) → 15 < w / 65536 % 256
+  first-over d = omega arith
+
+  pub fields-fit : (not (eqb (w / 4096 % 16) 0) || not (eqb (w / 1048576 % 16) 0)) ≡ false → (leb (w / 256 % 256) 15 ≡ true) × (leb (w / 65536 % 256) 15 ≡ true)
+  fields-fit e =
+      let p = either-false (not (eqb (w / 4096 % 16) 0)) (not (eqb (w / 1048576 % 16) 0)) e in (
+        le-leb (w / 256 % 256) 15 (result-fits (eqb-true (w / 4096 % 16) 0 (not-false (eqb (w / 4096 % 16) 0) (p .0)))),
+        le-leb (w / 65536 % 256) 15 (first-fits (eqb-true (w / 1048576 % 16) 0 (not-false (eqb (w / 1048576 % 16) 0) (p .1)))),
+      )
+
+  pub fields-over : (not (eqb (w / 4096 % 16) 0) || not (eqb (w / 1048576 % 16) 0)) ≡ true → (op b : ℕ) → recordHolds op (w / 256 % 256) (w / 65536 % 256) b ≡ false
+  unfolding recordHolds
+  fields-over e op b =
+      ⊎-elim
+      (λ s. rw (lt-leb (w / 256 % 256) 15 (result-over (eqb-false (w / 4096 % 16) 0 (not-true (eqb (w / 4096 % 16) 0) s)))) (no-result (ltb op (length operations)) (leb (w / 65536 % 256) 15) (leb b 16) (leb b 15 || not (compares (operationOf op)))))
+      (λ s. rw (lt-leb (w / 65536 % 256) 15 (first-over (eqb-false (w / 1048576 % 16) 0 (not-true (eqb (w / 1048576 % 16) 0) s)))) (no-first (ltb op (length operations)) (leb (w / 256 % 256) 15) (leb b 16) (leb b 15 || not (compares (operationOf op)))))
+      (either-true (not (eqb (w / 4096 % 16) 0)) (not (eqb (w / 1048576 % 16) 0)) e)
+    where
+      no-result : (p a b c : Bool) → (p && false && a && b && c) ≡ false
+      no-result true a b c = refl
+      no-result false a b c = refl
+
+      no-first : (p a b c : Bool) → (p && a && false && b && c) ≡ false
+      no-first true true b c = refl
+      no-first true false b c = refl
+      no-first false a b c = refl

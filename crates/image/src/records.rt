@@ -1,6 +1,5 @@
 // The records: 8 bytes each, operation, c, a, b and the immediate word.
 
-use crate::lengths::operation_number;
 use crate::table::TableCheck;
 use crate::table::check_table;
 use memory::word_at;
@@ -24,26 +23,23 @@ pub enum ImageCheck {
     Record(u32),
 }
 
-// Whether a record's operation, by its number, and its other bytes are in their bounds. JEQ to JGE.U take no immediate.
-fn record_holds(op: u8, c: u8, a: u8, b: u8) -> bool
-    ensures { λ r. ⌜ r ≡ recordHolds op c a b ⌝ }
+// Whether the record with that first word is in its bounds: the operation by its number, c, a and b. JEQ to JGE.U take no immediate.
+fn word_fits(w: u32) -> bool
+    ensures { λ r. ⌜ r ≡ recordHolds (operationNumber (w % 256)) (w / 256 % 256) (w / 65536 % 256) (w / 16777216) ⌝ }
 {
-    if !is_operation(op as u32) {
+    if !is_operation(w % 0x80) {
         return false;
     }
-    if 15 < c {
+    if (w / 0x1000 % 16 != 0) | (w / 0x10_0000 % 16 != 0) {
         return false;
     }
-    if 15 < a {
-        return false;
-    }
-    if b < 16 {
+    if w / 0x100_0000 < 16 {
         return true;
     }
-    if 16 < b {
+    if 16 < w / 0x100_0000 {
         return false;
     }
-    !is_compare(op as u32)
+    !is_compare(w % 0x80)
 }
 
 // What a pass over all records finds: that each holds, and whether none is a short form.
@@ -52,7 +48,7 @@ struct Scan {
     long: bool,
 }
 
-// Whether the record with that first word holds. There is no branch, so that several records are tried at a time.
+// The same without a branch, so that several records are tried at a time.
 fn word_holds(w: u32) -> bool
     ensures { λ r. ⌜ r ≡ recordHolds (operationNumber (w % 256)) (w / 256 % 256) (w / 65536 % 256) (w / 16777216) ⌝ }
 {
@@ -111,19 +107,14 @@ fn scan_each(image: &[u8]) -> ImageScan
     let mut k: u32 = 0;
     let mut long = true;
     while at < image.len() {
-        let op = image[at];
-        if !record_holds(
-            operation_number(op),
-            image[at + 1],
-            image[at + 2],
-            image[at + 3],
-        ) {
+        let w = word_at(image, at);
+        if !word_fits(w) {
             return ImageScan {
                 check: ImageCheck::Record(k),
                 long: false,
             };
         }
-        long = long & (op < 128);
+        long = long & word_long(w);
         at += 8;
         k += 1;
     }

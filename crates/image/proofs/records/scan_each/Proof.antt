@@ -1,16 +1,16 @@
 -- `image::records::scan_each` meets its contract. Assumes nothing.
 use borrow.Author.Needs.{needs}
 use native.Mathlib.Omega.{arith}
-use Prim.Native.Nat.{_+_, _-_, _*_, _≤_, _<_}
+use Prim.Native.Nat.{ℕ, _+_, _-_, _*_, _≤_, _<_}
 use native.Mathlib.Nat.{sub-zero}
 use mathlib.Core.Path.{_≡_, refl, sym, _∙_}
 use mathlib.Core.Bool.{true, _&&_}
 use borrow.Author.Tests.{not-true, not-false}
 use lib.ListN.{length, getD}
 use Rattle.image.specs.Table.{bodiesOf}
-use Rattle.image.specs.Records.{recordAt, recordsFrom, totalOf}
+use Rattle.image.specs.Records.{recordsFrom, totalOf}
 use Rattle.image.specs.Marks.{longFrom, longOnly}
-use Rattle.image.proofs.Tests.{byte-form}
+use Rattle.image.proofs.Tests.{word-record, word-short}
 use Rattle.image.proofs.Images.{right-of, sized, turn-on, turn-fault, turn-end}
 use Rattle.image.proofs.Long.{pass-first, pass-on, pass-end}
 use Rattle.image.proofs.records.scan_each.Statement.{statement}
@@ -46,62 +46,45 @@ loop-holds c =
     let e : 4 + 12 * c .word-at .result ≡ bodiesOf img + 8 * 0 = omega arith in
     (e, omega arith, rw (sub-zero, w), pass-first img true refl)
 
-shared-slice-read-op : tie.Need-shared-slice-read-op Inv-loop μ-loop
-shared-slice-read-op c = let s = sized (c .before .before .before .before .before .args .image .now) (c .before .before .before .before .before .pre) in let l = c .before .before .loop .inv in let t = c .before .loop-test .taken in omega (arith, l .0)
+word-at-requires-2 : tie.Need-word-at-requires-2 Inv-loop μ-loop
+word-at-requires-2 c κs = let s = sized (c .before .before .before .before .args .image .now) (c .before .before .before .before .pre) in let l = c .before .loop .inv in let t = c .loop-test .taken in omega (arith, l .0)
 
-operation-number-requires : tie.Need-operation-number-requires Inv-loop μ-loop
-operation-number-requires c κs = search needs
-
-add-record-holds : tie.Need-add-record-holds Inv-loop μ-loop
-add-record-holds c = let s = sized (c .before .before .before .before .before .before .args .image .now) (c .before .before .before .before .before .before .pre) in let l = c .before .before .before .loop .inv in let t = c .before .before .loop-test .taken in omega (arith, l .0)
-
-shared-slice-read-record-holds : tie.Need-shared-slice-read-record-holds Inv-loop μ-loop
-shared-slice-read-record-holds c = let s = sized (c .before .before .before .before .before .before .before .args .image .now) (c .before .before .before .before .before .before .before .pre) in let l = c .before .before .before .before .loop .inv in let t = c .before .before .before .loop-test .taken in omega (arith, l .0)
-
-add-record-holds-2 : tie.Need-add-record-holds-2 Inv-loop μ-loop
-add-record-holds-2 c = let s = sized (c .before .before .before .before .before .before .before .args .image .now) (c .before .before .before .before .before .before .before .pre) in let l = c .before .before .before .before .loop .inv in let t = c .before .before .before .loop-test .taken in omega (arith, l .0)
-
-shared-slice-read-record-holds-2 : tie.Need-shared-slice-read-record-holds-2 Inv-loop μ-loop
-shared-slice-read-record-holds-2 c = let s = sized (c .before .before .before .before .before .before .before .before .args .image .now) (c .before .before .before .before .before .before .before .before .pre) in let l = c .before .before .before .before .before .loop .inv in let t = c .before .before .before .before .loop-test .taken in omega (arith, l .0)
-
-add-record-holds-3 : tie.Need-add-record-holds-3 Inv-loop μ-loop
-add-record-holds-3 c = let s = sized (c .before .before .before .before .before .before .before .before .args .image .now) (c .before .before .before .before .before .before .before .before .pre) in let l = c .before .before .before .before .before .loop .inv in let t = c .before .before .before .before .loop-test .taken in omega (arith, l .0)
-
-shared-slice-read-record-holds-3 : tie.Need-shared-slice-read-record-holds-3 Inv-loop μ-loop
-shared-slice-read-record-holds-3 c = let s = sized (c .before .before .before .before .before .before .before .before .before .args .image .now) (c .before .before .before .before .before .before .before .before .before .pre) in let l = c .before .before .before .before .before .before .loop .inv in let t = c .before .before .before .before .before .loop-test .taken in omega (arith, l .0)
-
-record-holds-requires : tie.Need-record-holds-requires Inv-loop μ-loop
-record-holds-requires c κs = search needs
+word-fits-requires : tie.Need-word-fits-requires Inv-loop μ-loop
+word-fits-requires c κs = search needs
 
 returns : tie.Need-returns Inv-loop μ-loop
 returns c =
-    let img = c .before .before .before .before .before .before .before .before .before .before .before .args .image .now in
-    let s = sized img (c .before .before .before .before .before .before .before .before .before .before .before .pre) in
-    let l = c .before .before .before .before .before .before .before .before .loop in
-    let h : c .before .record-holds .result ≡ recordAt img (l .at) = rw (← c .before .before .before .before .before .operation-number .ensures) (c .before .record-holds .ensures) in
-    let k : l .k < totalOf img = let t = c .before .before .before .before .before .before .before .loop-test .taken in omega (arith, l .inv .0) in
-    (turn-fault img (l .at) (l .k) (l .inv .0) k (sym h ∙ not-true (c .before .record-holds .result) (c .if1 .taken)) ∙ l .inv .2, refl)
+    let img = c .before .before .before .before .before .before .before .args .image .now in
+    let s = sized img (c .before .before .before .before .before .before .before .pre) in
+    let l = c .before .before .before .before .loop in
+    let h = c .before .word-fits .ensures ∙ word-record img (l .at) (c .before .before .word-at2 .result) (λ j. c .before .before .before .before .before .before .shared-slice-known .given j .fits) (c .before .before .word-at2 .ensures) in
+    let k : l .k < totalOf img = let t = c .before .before .before .loop-test .taken in omega (arith, l .inv .0) in
+    (turn-fault img (l .at) (l .k) (l .inv .0) k (sym h ∙ not-true (c .before .word-fits .result) (c .if1 .taken)) ∙ l .inv .2, refl)
+
+word-long-requires : tie.Need-word-long-requires Inv-loop μ-loop
+word-long-requires c κs = search needs
 
 add-at-2 : tie.Need-add-at-2 Inv-loop μ-loop
-add-at-2 c = let s = sized (c .before .before .before .before .before .before .before .before .before .before .before .args .image .now) (c .before .before .before .before .before .before .before .before .before .before .before .pre) in let l = c .before .before .before .before .before .before .before .before .loop .inv in let t = c .before .before .before .before .before .before .before .loop-test .taken in omega (arith, l .0)
+add-at-2 c = let s = sized (c .before .before .before .before .before .before .before .before .args .image .now) (c .before .before .before .before .before .before .before .before .pre) in let l = c .before .before .before .before .before .loop .inv in let t = c .before .before .before .before .loop-test .taken in omega (arith, l .0)
 
 add-k : tie.Need-add-k Inv-loop μ-loop
-add-k c = let s = sized (c .before .before .before .before .before .before .before .before .before .before .before .args .image .now) (c .before .before .before .before .before .before .before .before .before .before .before .pre) in let l = c .before .before .before .before .before .before .before .before .loop .inv in let t = c .before .before .before .before .before .before .before .loop-test .taken in omega (arith, l .0)
+add-k c = let s = sized (c .before .before .before .before .before .before .before .before .args .image .now) (c .before .before .before .before .before .before .before .before .pre) in let l = c .before .before .before .before .before .loop .inv in let t = c .before .before .before .before .loop-test .taken in omega (arith, l .0)
 
 loop-less : tie.Need-loop-less Inv-loop μ-loop
-loop-less c = let t = c .before .before .before .before .before .before .before .loop-test .taken in omega arith
+loop-less c = let t = c .before .before .before .before .loop-test .taken in omega arith
 
 loop-again : tie.Need-loop-again Inv-loop μ-loop
 loop-again c =
-    let img = c .before .before .before .before .before .before .before .before .before .before .before .args .image .now in
-    let s = sized img (c .before .before .before .before .before .before .before .before .before .before .before .pre) in
-    let l = c .before .before .before .before .before .before .before .before .loop in
-    let h : c .before .record-holds .result ≡ recordAt img (l .at) = rw (← c .before .before .before .before .before .operation-number .ensures) (c .before .record-holds .ensures) in
-    let k : l .k < totalOf img = let t = c .before .before .before .before .before .before .before .loop-test .taken in omega (arith, l .inv .0) in (
+    let img = c .before .before .before .before .before .before .before .before .args .image .now in
+    let s = sized img (c .before .before .before .before .before .before .before .before .pre) in
+    let l = c .before .before .before .before .before .loop in
+    let known : (j : ℕ) → getD img j 0 < 256 = λ j. c .before .before .before .before .before .before .before .shared-slice-known .given j .fits in
+    let h = c .before .before .word-fits .ensures ∙ word-record img (l .at) (c .before .before .before .word-at2 .result) known (c .before .before .before .word-at2 .ensures) in
+    let k : l .k < totalOf img = let t = c .before .before .before .before .loop-test .taken in omega (arith, l .inv .0) in (
       omega (arith, l .inv .0),
       omega (arith, k),
-      turn-on img (l .at) (l .k) (l .inv .0) k (sym h ∙ not-false (c .before .record-holds .result) (c .if1 .left)) ∙ l .inv .2,
-      rw (byte-form (getD img (l .at) 0), l .inv .0) (pass-on img (l .long) (l .k) k) ∙ l .inv .3,
+      turn-on img (l .at) (l .k) (l .inv .0) k (sym h ∙ not-false (c .before .before .word-fits .result) (c .before .if1 .left)) ∙ l .inv .2,
+      rw (c .word-long .ensures, word-short img (l .at) (c .before .before .before .word-at2 .result) known (c .before .before .before .word-at2 .ensures), l .inv .0) (pass-on img (l .long) (l .k) k) ∙ l .inv .3,
     )
 
 returns-2 : tie.Need-returns-2 Inv-loop μ-loop
@@ -123,16 +106,10 @@ scan-each-spec =
     mul-at
     add-at
     loop-holds
-    shared-slice-read-op
-    operation-number-requires
-    add-record-holds
-    shared-slice-read-record-holds
-    add-record-holds-2
-    shared-slice-read-record-holds-2
-    add-record-holds-3
-    shared-slice-read-record-holds-3
-    record-holds-requires
+    word-at-requires-2
+    word-fits-requires
     returns
+    word-long-requires
     add-at-2
     add-k
     loop-less
