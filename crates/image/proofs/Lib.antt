@@ -6,6 +6,7 @@ pub mod Indices
 pub mod Addresses
 pub mod Walks
 pub mod Long
+pub mod Scanning
 pub mod Marking
 pub mod Rests
 pub mod Fetches

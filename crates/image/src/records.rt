@@ -103,20 +103,22 @@ fn scan_each(image: &[u8]) -> ImageScan
     ensures { λ r. ⌜ (r .check ≡ recordsFrom (totalOf (now (image .entry))) (now (image .entry)) (bodiesOf (now (image .entry))) 0) × (r .long ≡ longIn (now (image .entry)) (r .check)) ⌝ }
 {
     let n = word_at(image, 0);
-    let mut at = 4 + 12 * n as usize;
-    let mut k: u32 = 0;
+    let from = 4 + 12 * n as usize;
+    let mut at = from;
     let mut long = true;
     while at < image.len() {
         let w = word_at(image, at);
         if !word_fits(w) {
             return ImageScan {
-                check: ImageCheck::Record(k),
+                check: ImageCheck::Record(((at - from) / 8) as u32),
                 long: false,
             };
         }
-        long = long & word_long(w);
         at += 8;
-        k += 1;
+        if word_long(w) {
+            continue;
+        }
+        long = false;
     }
     ImageScan {
         check: ImageCheck::Holds,

@@ -1,0 +1,61 @@
+-- The records are tried one by one.
+-- Assumes nothing.
+use Prim.Native.Nat.{ℕ, _+_, _-_, _*_, _/_, _≤_, _<_}
+use native.Mathlib.Nat.{sub-zero}
+use native.Mathlib.Omega.{arith}
+use mathlib.Core.Path.{_≡_, refl, sym, _∙_}
+use mathlib.Core.Bool.{Bool, true, false, not, _&&_}
+use mathlib.Core.List.{List}
+use lib.ListN.{length, getD}
+use Rattle.image.specs.Lengths.{isShort}
+use Rattle.image.specs.Table.{bodiesOf}
+use Rattle.image.specs.Records.{recordAt, recordsFrom, totalOf}
+use Rattle.image.specs.Marks.{longFrom, longOnly}
+use Rattle.image.specs.declared.records.ImageCheck.the-variants.{Holds, Record}
+use Rattle.image.proofs.Images.{Sized, turn-on, turn-fault, turn-end}
+use Rattle.image.proofs.Long.{pass-first, pass-on, pass-end}
+
+-- those before byte `at` are in order, and `long` tells whether they are long
+pub record Scanned (img : List ℕ) (at : ℕ) (long : Bool) : Type 0 where
+  pub index : ℕ
+  pub at-is : at ≡ bodiesOf img + 8 * index
+  pub most : index ≤ totalOf img
+  pub check : recordsFrom (totalOf img - index) img at index ≡ recordsFrom (totalOf img) img (bodiesOf img) 0
+  pub long-is : (long && longFrom (totalOf img - index) img (bodiesOf img + 8 * index)) ≡ longOnly img
+
+module _ (img : List ℕ) (s : Sized img) where
+  pub scanned-first : (at : ℕ) → at ≡ bodiesOf img → Scanned img at true
+  scanned-first at e = record { index = 0; at-is = omega arith; most = omega arith; check = rw (e, sub-zero); long-is = pass-first img true refl }
+
+  module _ (at : ℕ) (long : Bool) (c : Scanned img at long) where
+    inside : at < length img → c .index < totalOf img
+    inside h = let l = s .length-is in omega (arith, c .at-is)
+
+    pub scanned-end : length img ≤ at → (Holds ≡ recordsFrom (totalOf img) img (bodiesOf img) 0) × (long ≡ longOnly img)
+    scanned-end h =
+        let k : totalOf img ≤ c .index = (let l = s .length-is in omega (arith, c .at-is)) in
+        (turn-end img at (c .index) (c .at-is) k ∙ c .check, sym (pass-end img long (c .index) k) ∙ c .long-is)
+
+    pub scanned-fault : at < length img → recordAt img at ≡ false → (from : ℕ) → from ≡ bodiesOf img → Record ((at - from) / 8) ≡ recordsFrom (totalOf img) img (bodiesOf img) 0
+    scanned-fault h t from e =
+        let q : (at - from) / 8 ≡ c .index = omega (arith, c .at-is) in
+        rw q (turn-fault img at (c .index) (c .at-is) (inside h) t ∙ c .check)
+
+    pub scanned-on : at < length img → recordAt img at ≡ true → Scanned img (at + 8) (long && not (isShort (getD img at 0)))
+    scanned-on h t =
+        record {
+          index = c .index + 1;
+          at-is = omega (arith, c .at-is);
+          most = omega (arith, inside h);
+          check = turn-on img at (c .index) (c .at-is) (inside h) t ∙ c .check;
+          long-is = rw (c .at-is) (pass-on img long (c .index) (inside h)) ∙ c .long-is;
+        }
+
+-- a long record leaves what is told, a short one tells that not all are long
+pub and-long : (long b : Bool) → b ≡ true → (long && b) ≡ long
+and-long true b e = e
+and-long false b e = refl
+
+pub and-short : (long b : Bool) → b ≡ false → (long && b) ≡ false
+and-short true b e = e
+and-short false b e = refl
