@@ -17,11 +17,7 @@ use Rattle.image.specs.declared.table.Entry.{Entry}
 use Rattle.image.proofs.Addresses.{after-none, after-rest, after-low, after-high}
 use Rattle.image.proofs.Walks.{walk-before, walk-beyond, walk-skip}
 
--- ---- a mark by its parts
-pub mark-parts : (address entry k : ℕ) → entry < 2 ^ 16 → k < 2 ^ 16
-    → (markEntry (address * 2 ^ 32 + entry * 2 ^ 16 + k) ≡ entry) × (markIndex (address * 2 ^ 32 + entry * 2 ^ 16 + k) ≡ k) × (markAddress (address * 2 ^ 32 + entry * 2 ^ 16 + k) ≡ address)
-mark-parts address entry k h l = (omega arith, omega arith, omega arith)
-
+-- ---- a mark
 -- entry 0 says nothing
 pub unmarked : (img marks : List ℕ) → ((s : ℕ) → s < length marks → getD marks s 0 ≡ 0) → MarksHold img marks
 unmarked img marks z = record { each = λ s h i e. absurd (let y = z s h in let x : markEntry 0 ≡ i + 1 = rw y at e in omega arith) }
