@@ -1,17 +1,20 @@
 -- The records are tried one by one.
 -- Assumes nothing.
-use Prim.Native.Nat.{ℕ, _+_, _-_, _*_, _/_, _≤_, _<_}
+use Prim.Native.Nat.{ℕ, _+_, _-_, _*_, _/_, _%_, _≤_, _<_}
 use native.Mathlib.Nat.{sub-zero}
 use native.Mathlib.Omega.{arith}
 use mathlib.Core.Path.{_≡_, refl, sym, _∙_}
 use mathlib.Core.Bool.{Bool, true, false, not, _&&_}
 use mathlib.Core.List.{List}
 use lib.ListN.{length, getD}
-use Rattle.image.specs.Lengths.{isShort}
+use borrow.Author.Tests.{not-false}
+use Rattle.memory.specs.Word.{wordAt}
+use Rattle.image.specs.Lengths.{isShort, operationNumber}
 use Rattle.image.specs.Table.{bodiesOf}
-use Rattle.image.specs.Records.{recordAt, recordsFrom, totalOf}
+use Rattle.image.specs.Records.{recordHolds, recordAt, recordsFrom, totalOf}
 use Rattle.image.specs.Marks.{longFrom, longOnly}
 use Rattle.image.specs.declared.records.ImageCheck.the-variants.{Holds, Record}
+use Rattle.image.proofs.Tests.{word-record, word-short}
 use Rattle.image.proofs.Images.{Sized, turn-on, turn-fault, turn-end}
 use Rattle.image.proofs.Long.{pass-first, pass-on, pass-end}
 
@@ -50,6 +53,10 @@ module _ (img : List ℕ) (s : Sized img) where
           check = turn-on img at (c .index) (c .at-is) (inside h) t ∙ c .check;
           long-is = rw (c .at-is) (pass-on img long (c .index) (inside h)) ∙ c .long-is;
         }
+
+    -- the same by the record's first word
+    pub scanned-word : at < length img → (w : ℕ) → ((j : ℕ) → getD img j 0 < 256) → w ≡ wordAt img at → (fits : Bool) → fits ≡ recordHolds (operationNumber (w % 256)) (w / 256 % 256) (w / 65536 % 256) (w / 16777216) → not fits ≡ false → (b : Bool) → b ≡ not (isShort (w % 256)) → Scanned img (at + 8) (long && b)
+    scanned-word h w known e fits f t b g = rw (g, word-short img at w known e) (scanned-on h (sym (f ∙ word-record img at w known e) ∙ not-false fits t))
 
 -- a long record leaves what is told, a short one tells that not all are long
 pub and-long : (long b : Bool) → b ≡ true → (long && b) ≡ long

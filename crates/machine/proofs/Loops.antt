@@ -23,7 +23,7 @@ use Rattle.decisions.specs.Phases.{interrupted, oneOf}
 use Rattle.machine.specs.Run.{RunOf, ran, runFrom}
 use Rattle.machine.specs.Inner.{Foremost, Ready, leftBy, Paces}
 use Rattle.machine.specs.declared.answer.Outcome.the-variants.{Made, Stopped}
-use Rattle.machine.specs.declared.run_steps.Paced.{Paced}
+use Rattle.machine.specs.declared.instructions.Paced.{Paced}
 use Rattle.machine.proofs.Turns.{ready-next, run-made, run-stopped, run-end, off, taken-one, taken-requests}
 
 -- the run that is to be made: n steps from r₀, xs₀ and m₀

@@ -19,7 +19,7 @@ use Rattle.inputs.specs.declared.verdict.Verdict.the-variants.{Accepted}
 use Rattle.decisions.specs.Valid.{Valid, Bytes}
 use Rattle.machine.specs.Run.{RunOf, ran, runFrom}
 use Rattle.machine.specs.declared.answer.Outcome.the-variants as outcome
-use Rattle.machine.specs.declared.run_steps.Paced.{Paced}
+use Rattle.machine.specs.declared.instructions.Paced.{Paced}
 
 -- the best source, for n steps from that ICR on: any will do for a single step that takes none
 abbrev pub Foremost : ℕ → ℕ → List ℕ → Best → Type 0

@@ -2,5 +2,6 @@
 
 pub mod answer;
 mod guided;
+mod instructions;
 mod run_steps;
 pub mod steps;

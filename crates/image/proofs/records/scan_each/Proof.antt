@@ -1,17 +1,15 @@
 -- `image::records::scan_each` meets its contract. Assumes nothing.
 use borrow.Author.Needs.{needs}
 use native.Mathlib.Omega.{arith}
-use Prim.Native.Nat.{ℕ, _+_, _-_, _*_, _<_}
+use Prim.Native.Nat.{_+_, _-_, _*_}
 use mathlib.Core.Path.{_≡_, refl, sym, subst, _∙_}
-use mathlib.Core.Bool.{Bool, not}
-use borrow.Author.Tests.{not-true, not-false}
-use lib.ListN.{length, getD}
-use Rattle.image.specs.Lengths.{isShort}
+use mathlib.Core.Bool.{Bool}
+use borrow.Author.Tests.{not-true}
+use lib.ListN.{length}
 use Rattle.image.specs.Table.{bodiesOf}
-use Rattle.image.specs.Records.{recordAt}
-use Rattle.image.proofs.Tests.{word-record, word-short}
+use Rattle.image.proofs.Tests.{word-record}
 use Rattle.image.proofs.Images.{right-of, sized}
-use Rattle.image.proofs.Scanning.{Scanned, scanned-first, scanned-end, scanned-fault, scanned-on, and-long, and-short}
+use Rattle.image.proofs.Scanning.{Scanned, scanned-first, scanned-end, scanned-fault, scanned-word, and-long, and-short}
 use Rattle.image.proofs.records.scan_each.Statement.{statement}
 use Rattle.image.proofs.records.scan_each.Tie as tie
 
@@ -75,12 +73,8 @@ loop-again c =
     let img = c .before .before .before .before .before .before .before .before .before .args .image .now in
     let s = sized img (c .before .before .before .before .before .before .before .before .before .pre) in
     let l = c .before .before .before .before .before .before .loop in
-    let known : (j : ℕ) → getD img j 0 < 256 = λ j. c .before .before .before .before .before .before .before .before .shared-slice-known .given j .fits in
-    let w = c .before .before .before .before .word-at2 .ensures in
-    let h = c .before .before .before .word-fits .ensures ∙ word-record img (l .at) (c .before .before .before .before .word-at2 .result) known w in
-    let b : not (isShort (getD img (l .at) 0)) ≡ c .before .word-long .result = rw (← word-short img (l .at) (c .before .before .before .before .word-at2 .result) known w) (sym (c .before .word-long .ensures)) in
-    let g = scanned-on img s (l .at) (l .long) (l .inv .1) (c .before .before .before .before .before .loop-test .taken) (sym h ∙ not-false (c .before .before .before .word-fits .result) (c .before .before .if1 .left)) in
-    (l .inv .0, subst (λ (x : Bool). Scanned img (l .at + 8) x) (and-long (l .long) _ (b ∙ c .if2 .taken)) g)
+    let g = scanned-word img s (l .at) (l .long) (l .inv .1) (c .before .before .before .before .before .loop-test .taken) _ (λ j. c .before .before .before .before .before .before .before .before .shared-slice-known .given j .fits) (c .before .before .before .before .word-at2 .ensures) _ (c .before .before .before .word-fits .ensures) (c .before .before .if1 .left) _ (c .before .word-long .ensures) in
+    (l .inv .0, subst (λ (x : Bool). Scanned img (l .at + 8) x) (and-long (l .long) _ (c .if2 .taken)) g)
 
 loop-less-2 : tie.Need-loop-less-2 Inv-loop μ-loop
 loop-less-2 c = let t = c .before .before .before .before .before .loop-test .taken in omega arith
@@ -90,12 +84,8 @@ loop-again-2 c =
     let img = c .before .before .before .before .before .before .before .before .before .args .image .now in
     let s = sized img (c .before .before .before .before .before .before .before .before .before .pre) in
     let l = c .before .before .before .before .before .before .loop in
-    let known : (j : ℕ) → getD img j 0 < 256 = λ j. c .before .before .before .before .before .before .before .before .shared-slice-known .given j .fits in
-    let w = c .before .before .before .before .word-at2 .ensures in
-    let h = c .before .before .before .word-fits .ensures ∙ word-record img (l .at) (c .before .before .before .before .word-at2 .result) known w in
-    let b : not (isShort (getD img (l .at) 0)) ≡ c .before .word-long .result = rw (← word-short img (l .at) (c .before .before .before .before .word-at2 .result) known w) (sym (c .before .word-long .ensures)) in
-    let g = scanned-on img s (l .at) (l .long) (l .inv .1) (c .before .before .before .before .before .loop-test .taken) (sym h ∙ not-false (c .before .before .before .word-fits .result) (c .before .before .if1 .left)) in
-    (l .inv .0, subst (λ (x : Bool). Scanned img (l .at + 8) x) (and-short (l .long) _ (b ∙ c .if2 .left)) g)
+    let g = scanned-word img s (l .at) (l .long) (l .inv .1) (c .before .before .before .before .before .loop-test .taken) _ (λ j. c .before .before .before .before .before .before .before .before .shared-slice-known .given j .fits) (c .before .before .before .before .word-at2 .ensures) _ (c .before .before .before .word-fits .ensures) (c .before .before .if1 .left) _ (c .before .word-long .ensures) in
+    (l .inv .0, subst (λ (x : Bool). Scanned img (l .at + 8) x) (and-short (l .long) _ (c .if2 .left)) g)
 
 returns-2 : tie.Need-returns-2 Inv-loop μ-loop
 returns-2 c =

@@ -1,12 +1,12 @@
--- `machine::run_steps::instructions` meets its contract. Assumes nothing.
+-- `machine::instructions::instructions` meets its contract. Assumes nothing.
 use borrow.Author.Needs.{needs}
 use mathlib.Core.Path.{refl, sym, _∙_}
 use Rattle.memory.specs.Memory.{lent}
 use Rattle.registers.specs.Registers.{registers}
 use Rattle.machine.proofs.Turns.{image-holds}
 use Rattle.machine.proofs.Walks.{stands-first, ends-after}
-use Rattle.machine.proofs.run_steps.instructions.Statement.{statement}
-use Rattle.machine.proofs.run_steps.instructions.Tie as tie
+use Rattle.machine.proofs.instructions.instructions.Statement.{statement}
+use Rattle.machine.proofs.instructions.instructions.Tie as tie
 
 look-ahead-requires : tie.Need-look-ahead-requires
 look-ahead-requires c κs = (image-holds _ _ _ (c .before .before .before .before .before .pre .0 .accepted), c .before .before .before .before .before .pre .1 .0)

@@ -1,4 +1,4 @@
--- `machine::run_steps::steady_steps` meets its contract. Assumes nothing.
+-- `machine::instructions::steady_steps` meets its contract. Assumes nothing.
 use borrow.Author.Needs.{needs}
 use native.Mathlib.Omega.{arith}
 use Prim.Native.Nat.{_+_, _*_, _<_}
@@ -9,8 +9,8 @@ use Rattle.memory.specs.Memory.{lent}
 use Rattle.registers.specs.Registers.{registers}
 use Rattle.protection.specs.Range.{rangesIn}
 use Rattle.machine.proofs.Walks.{Goes, walk-first, walk-is, walk-next, goes-first, goes-read, goes-index, goes-place, ends-stopped, ends-made}
-use Rattle.machine.proofs.run_steps.steady_steps.Statement.{statement}
-use Rattle.machine.proofs.run_steps.steady_steps.Tie as tie
+use Rattle.machine.proofs.instructions.steady_steps.Statement.{statement}
+use Rattle.machine.proofs.instructions.steady_steps.Tie as tie
 
 abbrev Inv-loop : tie.InvT-loop
 Inv-loop base window₀ base2 window2₀ image guide marks d₀ a₀ core₀ words s n at₀ left₀ k₀ covers₀ from₀ window window2 d a core at left k covers from =

@@ -1,7 +1,7 @@
--- `machine::run_steps::after_one` meets its contract. Assumes nothing.
+-- `machine::instructions::after_one` meets its contract. Assumes nothing.
 use borrow.Author.Needs.{needs}
-use Rattle.machine.proofs.run_steps.after_one.Statement.{statement}
-use Rattle.machine.proofs.run_steps.after_one.Tie as tie
+use Rattle.machine.proofs.instructions.after_one.Statement.{statement}
+use Rattle.machine.proofs.instructions.after_one.Tie as tie
 
 pub after-one-spec : {M : Type 1} → statement M
 after-one-spec =
