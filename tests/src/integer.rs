@@ -1,7 +1,7 @@
-//! The integer operations, by document 01's numbers.
+//! The integer operations, by their operation bytes.
 
 extern "C" {
-    fn deqbaryn_integer(number: u8, a: u32, b: u32, psw: u32) -> u64;
+    fn deqbaryn_integer(byte: u8, a: u32, b: u32, psw: u32) -> u64;
 }
 
 /// Document 01's names of operations 1 to 38, in its order.
@@ -18,7 +18,7 @@ pub fn compute(name: &str, a: u32, b: u32, psw: u32) -> (u32, u32) {
     (answer as u32, (answer >> 32) as u32)
 }
 
-/// The answer for a number, as the library gives it.
-pub fn answer(number: u8, a: u32, b: u32, psw: u32) -> u64 {
-    unsafe { deqbaryn_integer(number, a, b, psw) }
+/// The answer for an operation byte, as the library gives it.
+pub fn answer(byte: u8, a: u32, b: u32, psw: u32) -> u64 {
+    unsafe { deqbaryn_integer(byte, a, b, psw) }
 }

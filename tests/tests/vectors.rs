@@ -75,9 +75,20 @@ fn each_operation_with_lines_is_named() {
 }
 
 #[test]
-fn other_numbers_are_answered_by_zero() {
-    for number in [0, 39, 78, 79, u8::MAX] {
-        assert_eq!(answer(number, 5, 7, 0xB80), 0);
+fn a_short_form_is_answered_as_the_long_record() {
+    for number in 1..=38 {
+        let long = answer(number, 0x8000_0005, 7, 0xB80);
+        assert_ne!(long, 0, "{number}");
+        assert_eq!(answer(number + 128, 0x8000_0005, 7, 0xB80), long, "{number}");
     }
     assert_eq!(answer(38, 5, 7, 0xB80), 0xB80_0000_0007);
+}
+
+#[test]
+fn other_bytes_are_answered_by_zero() {
+    for number in (0..128).filter(|number| !(1..=38).contains(number)) {
+        for byte in [number, number + 128] {
+            assert_eq!(answer(byte, 5, 7, 0xB80), 0, "{byte}");
+        }
+    }
 }

@@ -4,7 +4,8 @@ use mathlib.Core.Path.{refl}
 use Rattle.memory.specs.Word.{wordAt}
 use Rattle.areas.specs.Place.{placedAt, spotAt, placedIn}
 use Rattle.lists.specs.Walk.{walkOf, listsOf}
-use Rattle.image.specs.Lengths.{operationNumber, lengthOf, addressAfter}
+use Rattle.operations.specs.Forms.{operationNumber}
+use Rattle.image.specs.Lengths.{lengthOf, addressAfter}
 use Rattle.image.specs.Table.{entryAt, entryFits, entriesFrom, tableOf}
 use Rattle.image.specs.Records.{recordHolds, recordsFrom, imageOf}
 use Rattle.inputs.specs.Checks.{windowHolds, secondHolds, apartHolds, windowsVerdict, stepVerdict, startVerdict}

@@ -9,7 +9,8 @@ use mathlib.Core.Bool.{Bool, true, false, cond}
 use mathlib.Core.List.{List}
 use borrow.Author.Tests.{le-leb, lt-leb}
 use lib.ListN.{getD}
-use Rattle.image.specs.Lengths.{isShort, operationNumber, lengthOf, lengthAt, addressAfter}
+use Rattle.operations.specs.Forms.{isShort}
+use Rattle.image.specs.Lengths.{lengthOf, lengthAt, addressAfter}
 
 -- ---- a length is 2 or 4
 pub record LengthSays (n : ℕ) : Type 0 where
@@ -40,14 +41,6 @@ byte-length byte b x e = by (decLe 128 byte)
     by : Dec (128 ≤ byte) → x ≡ lengthOf byte
     by (yes h) = rw (short-length byte h) (omega arith)
     by (no h) = rw (long-length byte (lt-of-not-le h)) (let l = lt-of-not-le h in omega arith)
-
-pub byte-number : (byte : ℕ) → byte < 256 → byte % 128 ≡ operationNumber byte
-unfolding operationNumber
-byte-number byte b = by (decLe 128 byte)
-  where
-    by : Dec (128 ≤ byte) → byte % 128 ≡ cond (isShort byte) (byte - 128) byte
-    by (yes h) = rw (le-leb 128 byte h) (omega arith)
-    by (no h) = let l = lt-of-not-le h in rw (lt-leb 128 byte l) (omega arith)
 
 -- ---- where a record begins
 pub after-none : (img : List ℕ) (at from : ℕ) → addressAfter 0 img at from ≡ from

@@ -9,7 +9,8 @@ use borrow.Author.Tests.{leb-false, not-true}
 use lib.ListN.{length, getD}
 use lib.Dec.{leb}
 use Rattle.words.proofs.Truth.{both-true}
-use Rattle.image.specs.Lengths.{isShort, addressAfter}
+use Rattle.operations.specs.Forms.{isShort}
+use Rattle.image.specs.Lengths.{addressAfter}
 use Rattle.image.specs.Table.{entriesOf, entryAt, bodiesOf}
 use Rattle.image.specs.Records.{totalOf}
 use Rattle.image.specs.Rest.{rest, bodyWalk, restIn, indexOf}

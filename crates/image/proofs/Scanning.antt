@@ -9,7 +9,7 @@ use mathlib.Core.List.{List}
 use lib.ListN.{length, getD}
 use borrow.Author.Tests.{not-false}
 use Rattle.memory.specs.Word.{wordAt}
-use Rattle.image.specs.Lengths.{isShort, operationNumber}
+use Rattle.operations.specs.Forms.{isShort, operationNumber}
 use Rattle.image.specs.Table.{bodiesOf}
 use Rattle.image.specs.Records.{recordHolds, recordAt, recordsFrom, totalOf}
 use Rattle.image.specs.Marks.{longFrom, longOnly}

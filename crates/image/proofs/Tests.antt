@@ -15,11 +15,11 @@ use lib.Dec.{ltb, leb, eqb}
 use Rattle.operations.specs.Operations.{operations, operationOf, compares}
 use Rattle.image.specs.Table.{rangeEnd, entryFits, entryHolds}
 use Rattle.memory.specs.Word.{wordAt}
-use Rattle.image.specs.Lengths.{isShort, operationNumber}
+use Rattle.operations.specs.Forms.{isShort, operationNumber}
 use Rattle.image.specs.Records.{recordHolds, recordAt}
 use Rattle.image.specs.Rules.{EntryRight, RecordRight}
 use Rattle.image.specs.declared.table.Entry.{Entry}
-use Rattle.image.proofs.Addresses.{byte-number}
+use Rattle.operations.proofs.Forms.{byte-number}
 
 -- what an entry's words alone tell
 pub record Fits (e : Entry) (start len : ℕ) : Type 0 where

@@ -7,7 +7,8 @@ use lib.ListN.{getD}
 use lib.Dec.{eqb}
 use Rattle.memory.specs.Word.{wordAt}
 use Rattle.operations.specs.Operations.{operationOf, compares}
-use Rattle.image.specs.Lengths.{operationNumber, lengthAt}
+use Rattle.operations.specs.Forms.{operationNumber}
+use Rattle.image.specs.Lengths.{lengthAt}
 use Rattle.image.specs.Table.{entryAt}
 use Rattle.image.specs.Rest.{restOf, Begins}
 use Rattle.image.specs.declared.fetch.Instruction.{Instruction}

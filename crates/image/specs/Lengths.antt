@@ -1,16 +1,9 @@
 -- The lengths of records: a record covers 4 addresses; a short form, whose operation byte has 128 added, covers 2 (02, point 5).
-use Prim.Native.Nat.{ℕ, zero, suc, _+_, _-_, _*_}
-use mathlib.Core.Bool.{Bool, cond}
+use Prim.Native.Nat.{ℕ, zero, suc, _+_, _*_}
+use mathlib.Core.Bool.{cond}
 use mathlib.Core.List.{List}
 use lib.ListN.{getD}
-use lib.Dec.{leb}
-
-abbrev pub isShort : ℕ → Bool
-isShort byte = leb 128 byte
-
--- the operation's number: the byte, of a short form less 128
-unfoldable pub operationNumber : ℕ → ℕ
-operationNumber byte = cond (isShort byte) (byte - 128) byte
+use Rattle.operations.specs.Forms.{isShort}
 
 -- how many addresses a record with that operation byte covers
 unfoldable pub lengthOf : ℕ → ℕ

@@ -4,7 +4,7 @@ use mathlib.Core.Path.{_≡_}
 use mathlib.Core.Bool.{Bool, true, false, not, _&&_}
 use mathlib.Core.List.{List}
 use lib.ListN.{length, getD}
-use Rattle.image.specs.Lengths.{isShort}
+use Rattle.operations.specs.Forms.{isShort}
 use Rattle.image.specs.Table.{bodiesOf}
 use Rattle.image.specs.Records.{totalOf}
 use Rattle.image.specs.Rest.{Begins}

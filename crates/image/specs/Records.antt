@@ -6,7 +6,7 @@ use mathlib.Core.List.{List}
 use lib.ListN.{length, getD}
 use lib.Dec.{ltb, leb}
 use Rattle.operations.specs.Operations.{operations, operationOf, compares}
-use Rattle.image.specs.Lengths.{operationNumber}
+use Rattle.operations.specs.Forms.{operationNumber}
 use Rattle.image.specs.Table.{bodiesOf, tableOf}
 use Rattle.image.specs.declared.table.TableCheck.{TableCheck}
 use Rattle.image.specs.declared.table.TableCheck.the-variants as table

@@ -5,7 +5,7 @@ use mathlib.Core.Bool.{true}
 use mathlib.Core.List.{List}
 use lib.ListN.{length, getD}
 use Rattle.operations.specs.Operations.{operations, operationOf, compares}
-use Rattle.image.specs.Lengths.{operationNumber}
+use Rattle.operations.specs.Forms.{operationNumber}
 use Rattle.image.specs.Table.{entriesOf, entryAt, bodiesOf, rangeEnd}
 use Rattle.image.specs.Records.{totalOf}
 use Rattle.image.specs.declared.table.Entry.{Entry}

@@ -1,7 +1,6 @@
 // The record that begins at a PC, decoded, and those that follow it in its body.
 
 use crate::lengths::length_of;
-use crate::lengths::operation_number;
 use crate::marks::bias_of;
 use crate::marks::mark_address;
 use crate::marks::mark_entry;
@@ -56,7 +55,7 @@ pub fn read_record(image: &[u8], at: usize, next: u32) -> Instruction
     ensures { λ r. ⌜ ((pc : ℕ) → next ≡ nextAfter (now (image .entry)) at pc → r ≡ instructionAt (now (image .entry)) at pc) ⌝ }
 {
     Instruction {
-        op: decode(operation_number(image[at])),
+        op: decode(image[at]),
         c: wide(image[at + 1]),
         a: wide(image[at + 2]),
         b: wide(image[at + 3]),

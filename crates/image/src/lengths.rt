@@ -3,14 +3,7 @@
 ghost use mathlib.Core.Path.{_≡_};
 ghost use Prim.Native.Nat.{_+_, _*_, _^_, _≤_};
 ghost use lib.ListN.{length};
-ghost use Rattle.image.specs.Lengths.{operationNumber, lengthOf, addressAfter};
-
-// The operation's number, of an operation byte.
-pub fn operation_number(byte: u8) -> u8
-    ensures { λ r. ⌜ r ≡ operationNumber byte ⌝ }
-{
-    byte % 128
-}
+ghost use Rattle.image.specs.Lengths.{lengthOf, addressAfter};
 
 // How many addresses a record with that operation byte covers.
 pub fn length_of(byte: u8) -> u32

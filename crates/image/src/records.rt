@@ -9,7 +9,7 @@ ghost use mathlib.Core.Path.{_≡_};
 ghost use mathlib.Core.Bool.{true, not};
 ghost use mathlib.Core.List.{List};
 ghost use Prim.Native.Nat.{ℕ, _+_, _*_, _/_, _%_, _<_};
-ghost use Rattle.image.specs.Lengths.{isShort, operationNumber};
+ghost use Rattle.operations.specs.Forms.{isShort, operationNumber};
 ghost use Rattle.image.specs.Table.{bodiesOf, tableOf};
 ghost use Rattle.image.specs.Records.{recordHolds, recordsFrom, totalOf, imageOf, ImageHolds};
 ghost use Rattle.image.specs.Rules.{ImageSays};

@@ -1,7 +1,8 @@
--- An integer operation by its number, with both its answers in one number.
+-- An integer operation by its operation byte, with both its answers in one number.
 use Prim.Native.Nat.{ℕ, _+_, _*_, _^_}
 use Rattle.integer.specs.Integer.{computeOf}
 use Rattle.integer.specs.declared.Computed.{Computed}
+use Rattle.operations.specs.Forms.{operationNumber}
 use Rattle.operations.specs.Operations.{operationOf}
 use Rattle.operations.specs.declared.Operation.{Operation}
 use Rattle.operations.specs.declared.Operation.the-variants.{Nop, Integer, Move, Load, Store, Jump, Context, System}
@@ -22,4 +23,4 @@ exportBy (Context op) a b psw = 0
 exportBy (System op) a b psw = 0
 
 unfoldable pub exportOf : ℕ → ℕ → ℕ → ℕ → ℕ
-exportOf n a b psw = exportBy (operationOf n) a b psw
+exportOf byte a b psw = exportBy (operationOf (operationNumber byte)) a b psw

@@ -7,12 +7,12 @@ use operations::decode;
 ghost use mathlib.Core.Path.{_≡_};
 ghost use Rattle.integer_export.specs.Export.{packedOf, exportOf};
 
-// Operation `number` of document 01 on the operands a and b: PSW afterwards in the high word of the answer, the result in the low one. 0 for a number that is no integer operation.
+// The operation of an operation byte on the operands a and b: PSW afterwards in the high word of the answer, the result in the low one. 0 for a byte that is no integer operation's.
 #[no_mangle]
-pub extern "C" fn deqbaryn_integer(number: u8, a: u32, b: u32, psw: u32) -> u64
-    ensures { λ r. ⌜ r ≡ exportOf number a b psw ⌝ }
+pub extern "C" fn deqbaryn_integer(byte: u8, a: u32, b: u32, psw: u32) -> u64
+    ensures { λ r. ⌜ r ≡ exportOf byte a b psw ⌝ }
 {
-    match decode(number) {
+    match decode(byte) {
         Operation::Integer(op) => packed(compute(op, a, b, psw)),
         Operation::Nop => 0,
         Operation::Move(_) => 0,

@@ -3,7 +3,7 @@
 use Prim.Native.Nat.{ℕ, suc, _+_, _-_, _*_, _%_, _^_, _≤_, _<_}
 use native.Mathlib.Omega.{arith}
 use mathlib.Core.Path.{_≡_, refl, sym, ap, subst, _∙_}
-use mathlib.Core.Bool.{Bool, true, false, cond}
+use mathlib.Core.Bool.{Bool, true, false}
 use mathlib.Core.List.{List}
 use Rattle.words.proofs.Truth.{never}
 use Rattle.memory.specs.Memory.{Memory}
@@ -17,7 +17,6 @@ use Rattle.events.specs.declared.event.Ending.the-variants as ending
 use Rattle.protection.specs.declared.range.Range.{Range}
 use Rattle.interrupts.specs.Sources.{bestOf, takes}
 use Rattle.image.proofs.Addresses.{after-none}
-use Rattle.image.specs.Lengths.{lengthAt}
 use Rattle.image.specs.Rest.{IndexSays}
 use Rattle.image.specs.Fetch.{nextAfter, instructionAt}
 use Rattle.image.specs.declared.fetch.Instruction.{Instruction}
@@ -157,70 +156,60 @@ module _ (n : ℕ) (img : List ℕ) (rs : List Range) (r₀ : Registers) (m₀ :
         }
     walk-next t is (executed.Ended y) e z x h j i l = absurd (never (sym z))
 
-    -- the record at byte at + 8 * k is the walk's, and covers so many addresses. Among long ones k is its index; otherwise it is 0, and `from` is the address after the record
-    pub record Goes (left at k covers from : ℕ) (r : Registers) (m : Memory) : Type 0 where
+    -- the record at byte at + 8 * k is the walk's, and `next` the address after it. Among long ones k is its index; otherwise it is 0, and `after` is that address too
+    pub record Goes (left at k next after : ℕ) (r : Registers) (m : Memory) : Type 0 where
       pub index : ℕ
       pub walk : Walk left index r m
       pub stands : at + 8 * k ≡ s .at + 8 * index
-      pub length-is : covers ≡ lengthAt img (at + 8 * k)
-      pub by-index : long ≡ true → (from ≡ s .from) × (at ≡ s .at)
-      pub by-record : long ≡ false → Current img s at from
+      pub next-is : next ≡ nextAfter img (at + 8 * k) (pc r)
+      pub by-index : long ≡ true → at ≡ s .at
+      pub by-record : long ≡ false → Current img s at after
 
-    pub goes-first : {covers from : ℕ} → (w : Walk n 0 r₀ m₀) → covers ≡ lengthAt img (s .at) → from ≡ cond long (s .from) ((s .from + covers) % 2 ^ 32) → Goes n (s .at) 0 covers from r₀ m₀
-    goes-first {covers} {from} w e f =
+    pub goes-first : {next : ℕ} → (w : Walk n 0 r₀ m₀) → next ≡ nextAfter img (s .at) (s .from) → Goes n (s .at) 0 next next r₀ m₀
+    goes-first {next} w e =
         let z : s .at + 8 * 0 ≡ s .at = omega arith in
-        let y = w .span .lies in
-        let b1 = rw z at (next-begins img s y 0 (s .from) (w .inside) (sym (after-none img (s .at) (s .from)))) in
+        let first = sym (after-none img (s .at) (s .from)) in
+        let b = rw z at (next-begins img s (w .span .lies) 0 (s .from) (w .inside) first) in
         record {
           index = 0;
           walk = w;
           stands = refl;
-          length-is = rw z e;
-          by-index = λ b. (f ∙ rw b, refl);
-          by-record = λ b.
-              record {
-                index = 0;
-                inside = w .inside;
-                stands = sym z;
-                ends = f ∙ rw (b, e) b1;
-              };
+          next-is = rw (z, w .at, ← first) e;
+          by-index = λ _. refl;
+          by-record = λ _. record { index = 0; inside = w .inside; stands = sym z; ends = e ∙ b };
         }
 
-    goes-is : {left at k covers from next : ℕ} {r : Registers} {m : Memory} → Goes left at k covers from r m → next ≡ (pc r + covers) % 2 ^ 32 → next ≡ nextAfter img (at + 8 * k) (pc r)
-    goes-is g e = e ∙ rw (g .length-is)
-
-    pub goes-read : {left at k covers from next : ℕ} {r : Registers} {m : Memory} (g : Goes left at k covers from r m) {i : Instruction} → next ≡ (pc r + covers) % 2 ^ 32
+    pub goes-read : {left at k next after : ℕ} {r : Registers} {m : Memory} (g : Goes left at k next after r m) {i : Instruction}
         → ((p : ℕ) → next ≡ nextAfter img (at + 8 * k) p → i ≡ instructionAt img (at + 8 * k) p) → i ≡ instructionAt img (s .at + 8 * g .index) (pc r)
-    goes-read {left} {at} {k} {covers} {from} {next} {r} g e f = rw (g .stands) at (f (pc r) (goes-is g e))
+    goes-read {r = r} g f = rw (g .stands) at (f (pc r) (g .next-is))
 
     -- a record of an index, among long ones
-    pub goes-index : {left at k covers from j : ℕ} {r : Registers} {m : Memory} → Goes left at k covers from r m → {q : Registers} {w : Memory} {l : ℕ} → j < s .long
-        → (IndexSays from (pc q) j) → (((j < s .records) → IndexIn img s (pc q) j → Walk l j q w)) → Goes l at j covers from q w
-    goes-index {left} {at} {k} {covers} {from} {j} g {q} {w} {l} h i f =
+    pub goes-index : {left at k next after j : ℕ} {r : Registers} {m : Memory} → Goes left at k next after r m → {q : Registers} {w : Memory} {l then : ℕ} → j < s .long
+        → (IndexSays (s .from) (pc q) j) → (((j < s .records) → IndexIn img s (pc q) j → Walk l j q w)) → then ≡ (pc q + 4) % 2 ^ 32 → Goes l at j then after q w
+    goes-index {j = j} g {q} h i f e =
         let y = g .walk .span .lies in
         let c = counted-long img s y j h in
         let b = g .by-index (c .0) in
-        let d = f (c .1) (index-by img s y (c .0) (pc q) j (rw (b .0) at i)) in
         record {
           index = j;
-          walk = d;
-          stands = rw (b .1);
-          length-is = g .length-is ∙ rw (g .stands, b .1, long-four img s y (c .0) (g .index) (g .walk .inside), long-four img s y (c .0) j (c .1));
+          walk = f (c .1) (index-by img s y (c .0) (pc q) j i);
+          stands = rw b;
+          next-is = rw (b, long-four img s y (c .0) j (c .1)) e;
           by-index = g .by-index;
-          by-record = λ e. absurd (never (sym (c .0) ∙ e));
+          by-record = λ t. absurd (never (sym (c .0) ∙ t));
         }
 
     -- a record at a byte, among others
-    pub goes-place : {at covers from : ℕ} {q : Registers} {w : Memory} {l : ℕ} → Lies img long s → (long ≡ true → at ≡ s .end) → at < s .end → PlaceIn img s (pc q) at
-        → ((k : ℕ) → k < s .records → IndexIn img s (pc q) k → Walk l k q w) → covers ≡ lengthAt img at → from ≡ (pc q + covers) % 2 ^ 32 → Goes l at 0 covers from q w
-    goes-place {at} {covers} {from} {q} {w} {l} y b h p f e u =
+    pub goes-place : {at next : ℕ} {q : Registers} {w : Memory} {l : ℕ} → Lies img long s → (long ≡ true → at ≡ s .end) → at < s .end → PlaceIn img s (pc q) at
+        → ((k : ℕ) → k < s .records → IndexIn img s (pc q) k → Walk l k q w) → next ≡ nextAfter img at (pc q) → Goes l at 0 next next q w
+    goes-place {at} {next} {q} {w} {l} y b h p f e =
         let (k, i, st, x) = p h in
         let z : at + 8 * 0 ≡ at = omega arith in
         record {
           index = k;
           walk = f k i (λ _. x);
           stands = z ∙ st;
-          length-is = rw z e;
+          next-is = rw z e;
           by-index = λ t. absurd (let o = b t in omega arith);
-          by-record = λ t. record { index = k; inside = i; stands = st; ends = u ∙ rw (e, st) (next-begins img s y k (pc q) i x) };
+          by-record = λ t. record { index = k; inside = i; stands = st; ends = e ∙ rw st (next-begins img s y k (pc q) i x) };
         }

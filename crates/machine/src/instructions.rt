@@ -6,13 +6,12 @@ use execute::ending_of;
 use execute::execute_instruction;
 use execute::steady;
 use image::fetch::index_from;
+use image::fetch::next_after;
 use image::fetch::read_record;
-use image::lengths::length_of;
 use image::marks::Guide;
 use registers::PC;
 use spans::Ahead;
 use spans::Span;
-use spans::index::first_from;
 use spans::index::place_at;
 use spans::look_ahead;
 ghost use mathlib.Core.Path.{_≡_};
@@ -30,7 +29,7 @@ pub struct Paced {
     pub left: u32,
 }
 
-// Instructions of a span from PC on, up to n: to the first that is not steady, or whose successor lies outside the span.
+// Instructions of a span from PC on, up to n: to the first that is not steady, or whose successor lies outside the span. Long records are found by their index k from one byte on, and end 4 addresses on; that sum stands before the test, where it costs least. Others are found by their byte, and the address after one is kept for finding its successor.
 fn steady_steps(
     base: u32,
     window: &mut [u8],
@@ -55,10 +54,9 @@ fn steady_steps(
     let mut at = s.at;
     let mut left = n;
     let mut k: u32 = 0;
-    let mut covers = length_of(image[at]);
-    let mut from = first_from(guide.long, s.from, covers);
+    let mut next = next_after(image, at, s.from);
+    let mut after = next;
     loop {
-        let next = std::num::wrapping_add_u32(core[PC], covers);
         let i = read_record(image, at + 8 * k as usize, next);
         let done = execute_instruction(base, window, base2, window2, d, a, core, words, i);
         let ending = ending_of(done);
@@ -82,11 +80,12 @@ fn steady_steps(
             };
         }
         let pc = core[PC];
-        k = index_from(from, pc);
+        k = index_from(s.from, pc);
+        next = std::num::wrapping_add_u32(pc, 4);
         if k < s.long {
             continue;
         }
-        at = place_at(image, guide, marks, s, at, from, pc);
+        at = place_at(image, guide, marks, s, at, after, pc);
         if s.end <= at {
             return Paced {
                 ending: ending,
@@ -94,8 +93,8 @@ fn steady_steps(
             };
         }
         k = 0;
-        covers = length_of(image[at]);
-        from = std::num::wrapping_add_u32(pc, covers);
+        next = next_after(image, at, pc);
+        after = next;
     }
 }
 

@@ -6,15 +6,13 @@ use native.Mathlib.Nat.{lt-of-not-le}
 use native.Mathlib.Decide.{decLe}
 use mathlib.Core.Path.{_≡_, refl, ap, sym, _∙_}
 use mathlib.Core.Bool.{Bool, true, cond}
-use lib.ListN.{List·getD-eq-default}
 use lib.Dec.{ltb, eqb}
 use borrow.Author.Tests.{eqb-true, lt-ltb, le-ltb}
 use Rattle.operations.specs.Operations.{operations, operationOf, accessOf}
 use Rattle.operations.specs.declared.Operation.{Operation}
-use Rattle.operations.specs.declared.Operation.the-variants.{Nop}
 use Rattle.operations.specs.declared.Access.{Access}
 use Rattle.operations.specs.declared.Access.the-variants.{Nothing, Read, Write}
-use Rattle.operations.proofs.Table.{every, in-table}
+use Rattle.operations.proofs.Table.{every, in-table, from-last}
 
 abbrev pub code : Access → ℕ
 code Nothing = 0
@@ -52,7 +50,7 @@ unfolding operationOf
 by-code n x c past = go (decLe 79 n)
   where
     go : Dec (79 ≤ n) → x ≡ accessOf (operationOf n)
-    go (yes h) = past (omega arith) ∙ ap accessOf (sym (List·getD-eq-default operations Nop h))
+    go (yes h) = past (omega arith) ∙ ap accessOf (sym (from-last n (omega arith)))
     go (no h) = same-code _ _ (sym c ∙ sym (coded n (lt-of-not-le h)))
 
 pub before-loads : (n : ℕ) → n < 44 → Nothing ≡ accessOf (operationOf n)

@@ -6,14 +6,12 @@ use native.Mathlib.Nat.{lt-of-not-le}
 use native.Mathlib.Decide.{decLe}
 use mathlib.Core.Path.{_≡_, refl, ap, sym}
 use mathlib.Core.Bool.{Bool, true, false, cond, not, _&&_}
-use lib.ListN.{List·getD-eq-default}
 use lib.Dec.{ltb, leb}
 use borrow.Author.Tests.{le-ltb, le-leb}
 use Rattle.words.proofs.Truth.{never}
 use Rattle.operations.specs.Operations.{operations, operationOf, compares}
 use Rattle.operations.specs.declared.Operation.{Operation}
-use Rattle.operations.specs.declared.Operation.the-variants.{Nop}
-use Rattle.operations.proofs.Table.{every, in-table}
+use Rattle.operations.proofs.Table.{every, in-table, from-last}
 
 -- JEQ to JGE.U have 57 to 62
 between : ℕ → Bool
@@ -39,5 +37,5 @@ compares-by n = go (decLe 79 n)
     go (yes h) =
         let k : 57 ≤ n = omega arith in
         let l : 63 ≤ n = omega arith in
-        rw (le-leb 57 n k, le-ltb n 63 l) (ap compares (sym (List·getD-eq-default operations Nop h)))
+        rw (le-leb 57 n k, le-ltb n 63 l) (ap compares (sym (from-last n (omega arith))))
     go (no h) = alike (compares (operationOf n)) (between n) (in-table test computed n (lt-of-not-le h))

@@ -1,5 +1,5 @@
 -- Laws of the decoding.
-pub mod Keys
+pub mod Forms
 pub mod Table
 pub mod Accesses
 pub mod Compares

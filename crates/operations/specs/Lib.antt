@@ -1,2 +1,3 @@
 -- The operations.
+pub mod Forms
 pub mod Operations

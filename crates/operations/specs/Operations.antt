@@ -100,9 +100,9 @@ operations =
     ∷ System system.Rstv  -- 78 RSTV
     ∷ []
 
--- the operation with a number; NOP past the table's end
+-- the operation with a number; past the table's end, where rule 3 lets no record stand, the last one
 unfoldable pub operationOf : ℕ → Operation
-operationOf n = getD operations n Nop
+operationOf n = getD operations n (System system.Rstv)
 
 -- the loads read data memory, the stores write it
 abbrev pub accessOf : Operation → Access

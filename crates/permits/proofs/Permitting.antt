@@ -27,7 +27,7 @@ use Rattle.protection.proofs.Searches.{lowest-says, lowest-is}
 use Rattle.interrupts.specs.Sources.{bestOf, takes}
 use Rattle.operations.specs.Operations.{operationOf, accessOf}
 use Rattle.operations.specs.declared.Access.{Access as DataAccess}
-use Rattle.image.specs.Lengths.{operationNumber}
+use Rattle.operations.specs.Forms.{operationNumber}
 use Rattle.image.specs.Fetch.{instructionAt, fetchOf}
 use Rattle.image.specs.declared.fetch.Instruction.{Instruction}
 use Rattle.image.specs.declared.fetch.Fetched.the-variants.{Found, Nothing}

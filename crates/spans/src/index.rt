@@ -8,8 +8,7 @@ use image::marks::mark_entry;
 use image::marks::mark_index;
 use image::marks::slot_of;
 ghost use mathlib.Core.Path.{_≡_};
-ghost use mathlib.Core.Bool.{true, false, cond};
-ghost use Prim.Native.Nat.{_+_, _%_, _^_};
+ghost use mathlib.Core.Bool.{true, false};
 ghost use Rattle.image.specs.Marks.{MarksHold};
 ghost use Rattle.spans.specs.Spans.{Lies, Placed, IndexIn, Current, PlaceIn};
 
@@ -52,16 +51,6 @@ fn index_marked(image: &[u8], guide: Guide, marks: &[u64], s: Span, pc: u32) -> 
         return s.records;
     }
     index_on(image, guide.long, s, k, mark_address(m), pc)
-}
-
-// From where a span's records are counted: among long ones from its first; otherwise from the one after the current one, here after the first.
-pub fn first_from(long: bool, from: u32, covers: u32) -> u32
-    ensures { λ r. ⌜ r ≡ cond long from ((from + covers) % 2 ^ 32) ⌝ }
-{
-    if long {
-        return from;
-    }
-    std::num::wrapping_add_u32(from, covers)
 }
 
 // The byte at which the record stands that begins at pc, after the one at byte `at`, which ends at `next`. Past the span where none begins there, where no mark tells, and where all are long: these are found by their index.

@@ -21,7 +21,8 @@ use Rattle.protection.specs.Range.{enables, permits, firstOf, anyFrom}
 use Rattle.protection.specs.Access.{checkOf}
 use Rattle.interrupts.specs.Sources.{betterOf, bestBelow, takes, clearedAt}
 use Rattle.operations.specs.Operations.{operationOf}
-use Rattle.image.specs.Lengths.{operationNumber, lengthOf, addressAfter}
+use Rattle.operations.specs.Forms.{operationNumber}
+use Rattle.image.specs.Lengths.{lengthOf, addressAfter}
 use Rattle.image.specs.Table.{entryAt, entryFits, entriesFrom, tableOf}
 use Rattle.image.specs.Records.{recordHolds, recordsFrom, imageOf}
 use Rattle.image.specs.Rest.{bodyWalk, restFrom, restOf}

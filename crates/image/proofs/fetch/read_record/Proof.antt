@@ -4,11 +4,8 @@ use borrow.Author.Needs.{needs}
 use Rattle.image.proofs.fetch.read_record.Statement.{statement}
 use Rattle.image.proofs.fetch.read_record.Tie as tie
 
-shared-slice-read-operation-number : tie.Need-shared-slice-read-operation-number
-shared-slice-read-operation-number c = search needs
-
-operation-number-requires : tie.Need-operation-number-requires
-operation-number-requires c κs = search needs
+shared-slice-read-decode : tie.Need-shared-slice-read-decode
+shared-slice-read-decode c = search needs
 
 decode-requires : tie.Need-decode-requires
 decode-requires c κs = search needs
@@ -48,14 +45,13 @@ word-at-requires c κs = search needs
 
 returns : tie.Need-returns
 unfolding instructionAt
-returns c = λ pc e. rw (c .before .before .before .before .before .before .before .decode .ensures, c .before .before .before .before .before .before .before .before .operation-number .ensures, c .before .before .before .before .before .wide .ensures, c .before .before .before .wide2 .ensures, c .before .wide3 .ensures, c .word-at .ensures, e)
+returns c = λ pc e. rw (c .before .before .before .before .before .before .before .decode .ensures, c .before .before .before .before .before .wide .ensures, c .before .before .before .wide2 .ensures, c .before .wide3 .ensures, c .word-at .ensures, e)
 
 pub read-record-spec : {M : Type 1} → statement M
 read-record-spec =
     tie.close
     (tie.spec
-    shared-slice-read-operation-number
-    operation-number-requires
+    shared-slice-read-decode
     decode-requires
     add-wide
     shared-slice-read-wide
