@@ -57,12 +57,3 @@ module _ (img : List ℕ) (s : Sized img) where
     -- the same by the record's first word
     pub scanned-word : at < length img → (w : ℕ) → ((j : ℕ) → getD img j 0 < 256) → w ≡ wordAt img at → (fits : Bool) → fits ≡ recordHolds (operationNumber (w % 256)) (w / 256 % 256) (w / 65536 % 256) (w / 16777216) → not fits ≡ false → (b : Bool) → b ≡ not (isShort (w % 256)) → Scanned img (at + 8) (long && b)
     scanned-word h w known e fits f t b g = rw (g, word-short img at w known e) (scanned-on h (sym (f ∙ word-record img at w known e) ∙ not-false fits t))
-
--- a long record leaves what is told, a short one tells that not all are long
-pub and-long : (long b : Bool) → b ≡ true → (long && b) ≡ long
-and-long true b e = e
-and-long false b e = refl
-
-pub and-short : (long b : Bool) → b ≡ false → (long && b) ≡ false
-and-short true b e = e
-and-short false b e = refl

@@ -8,8 +8,8 @@ use mathlib.Core.Path.{_≡_, refl, sym, ap, _∙_}
 use mathlib.Core.Bool.{Bool, true, false, not, _&&_, _||_}
 use mathlib.Core.Logic.{⊎-elim}
 use mathlib.Core.List.{List}
-use Rattle.words.proofs.Truth.{never, both-true, either-true, either-false}
-use borrow.Author.Tests.{leb-true, eqb-true, eqb-false, ltb-true, lt-ltb, le-leb, lt-leb, eq-eqb, ne-eqb, not-true, not-false}
+use Rattle.words.proofs.Truth.{never, both-true, either-true}
+use borrow.Author.Tests.{leb-true, eqb-true, eqb-false, ltb-true, lt-ltb, le-leb, lt-leb, eq-eqb, ne-eqb}
 use lib.ListN.{length, getD}
 use lib.Dec.{ltb, leb, eqb}
 use Rattle.operations.specs.Operations.{operations, operationOf, compares}
@@ -158,40 +158,70 @@ module _ (img : List ℕ) (at w : ℕ) (b : (j : ℕ) → getD img j 0 < 256) (e
   unfolding wordAt
   word-short = rw (e, byte-0 (getD img at 0) (getD img (at + 1) 0) (getD img (at + 2) 0) (getD img (at + 3) 0) (b at) (b (at + 1)) (b (at + 2)))
 
--- c and a of a record's first word, by their high halves
-module _ (w : ℕ) where
-  result-fits : w / 4096 % 16 ≡ 0 → w / 256 % 256 ≤ 15
-  result-fits e = omega arith
+-- a record's first word, by the high halves of c, a and b
+module _ (w op : ℕ) where
+  result-fits : eqb (w / 4096 % 16) 0 ≡ true → leb (w / 256 % 256) 15 ≡ true
+  result-fits e = let z = eqb-true (w / 4096 % 16) 0 e in le-leb (w / 256 % 256) 15 (omega arith)
 
-  first-fits : w / 1048576 % 16 ≡ 0 → w / 65536 % 256 ≤ 15
-  first-fits e = omega arith
+  first-fits : eqb (w / 1048576 % 16) 0 ≡ true → leb (w / 65536 % 256) 15 ≡ true
+  first-fits e = let z = eqb-true (w / 1048576 % 16) 0 e in le-leb (w / 65536 % 256) 15 (omega arith)
 
-  result-over : (w / 4096 % 16 ≡ 0 → ⊥) → 15 < w / 256 % 256
-  result-over d = omega arith
+  result-over : eqb (w / 4096 % 16) 0 ≡ false → leb (w / 256 % 256) 15 ≡ false
+  result-over e = let z = eqb-false (w / 4096 % 16) 0 e in lt-leb (w / 256 % 256) 15 (omega (arith, z))
 
-  first-over : (w / 1048576 % 16 ≡ 0 → ⊥) → 15 < w / 65536 % 256
-  first-over d = omega arith
+  first-over : eqb (w / 1048576 % 16) 0 ≡ false → leb (w / 65536 % 256) 15 ≡ false
+  first-over e = let z = eqb-false (w / 1048576 % 16) 0 e in lt-leb (w / 65536 % 256) 15 (omega (arith, z))
 
-  pub fields-fit : (not (eqb (w / 4096 % 16) 0) || not (eqb (w / 1048576 % 16) 0)) ≡ false → (leb (w / 256 % 256) 15 ≡ true) × (leb (w / 65536 % 256) 15 ≡ true)
-  fields-fit e =
-      let p = either-false (not (eqb (w / 4096 % 16) 0)) (not (eqb (w / 1048576 % 16) 0)) e in (
-        le-leb (w / 256 % 256) 15 (result-fits (eqb-true (w / 4096 % 16) 0 (not-false (eqb (w / 4096 % 16) 0) (p .0)))),
-        le-leb (w / 65536 % 256) 15 (first-fits (eqb-true (w / 1048576 % 16) 0 (not-false (eqb (w / 1048576 % 16) 0) (p .1)))),
-      )
-
-  pub fields-over : (not (eqb (w / 4096 % 16) 0) || not (eqb (w / 1048576 % 16) 0)) ≡ true → (op b : ℕ) → recordHolds op (w / 256 % 256) (w / 65536 % 256) b ≡ false
+  -- b is one too: the operation is left
+  pub all-registers : (eqb (w / 4096 % 16) 0 && eqb (w / 1048576 % 16) 0 && eqb (w / 268435456) 0) ≡ true → recordHolds op (w / 256 % 256) (w / 65536 % 256) (w / 16777216) ≡ ltb op (length operations)
   unfolding recordHolds
-  fields-over e op b =
-      ⊎-elim
-      (λ s. rw (lt-leb (w / 256 % 256) 15 (result-over (eqb-false (w / 4096 % 16) 0 (not-true (eqb (w / 4096 % 16) 0) s)))) (no-result (ltb op (length operations)) (leb (w / 65536 % 256) 15) (leb b 16) (leb b 15 || not (compares (operationOf op)))))
-      (λ s. rw (lt-leb (w / 65536 % 256) 15 (first-over (eqb-false (w / 1048576 % 16) 0 (not-true (eqb (w / 1048576 % 16) 0) s)))) (no-first (ltb op (length operations)) (leb (w / 256 % 256) 15) (leb b 16) (leb b 15 || not (compares (operationOf op)))))
-      (either-true (not (eqb (w / 4096 % 16) 0)) (not (eqb (w / 1048576 % 16) 0)) e)
+  all-registers e =
+      let p = both-true _ _ e in
+      let q = both-true _ _ (p .0) in
+      let z = eqb-true (w / 268435456) 0 (p .1) in
+      let k : w / 16777216 ≤ 15 = omega arith in
+      let l : w / 16777216 ≤ 16 = omega arith in
+      rw (result-fits (q .0), first-fits (q .1), le-leb _ _ k, le-leb _ _ l) (operation (ltb op (length operations)))
     where
-      no-result : (p a b c : Bool) → (p && false && a && b && c) ≡ false
-      no-result true a b c = refl
-      no-result false a b c = refl
+      operation : (x : Bool) → (x && true && true && true && true) ≡ x
+      operation true = refl
+      operation false = refl
 
-      no-first : (p a b c : Bool) → (p && a && false && b && c) ≡ false
-      no-first true true b c = refl
-      no-first true false b c = refl
-      no-first false a b c = refl
+  -- b is none: 16, and no operation that compares
+  pub with-immediate : (eqb (w / 4096 % 16) 0 && eqb (w / 1048576 % 16) 0 && eqb (w / 268435456) 0) ≡ false
+      → recordHolds op (w / 256 % 256) (w / 65536 % 256) (w / 16777216) ≡ (eqb (w / 4096 % 16) 0 && eqb (w / 1048576 % 16) 0 && eqb (w / 16777216) 16 && ltb op (length operations) && not (compares (operationOf op)))
+  unfolding recordHolds
+  with-immediate e = by (eqb (w / 4096 % 16) 0) (eqb (w / 1048576 % 16) 0) refl refl e
+    where
+      none : (p x y z : Bool) → (p && false && x && y && z) ≡ false
+      none true x y z = refl
+      none false x y z = refl
+
+      none-first : (p x y : Bool) → (p && true && false && x && y) ≡ false
+      none-first true x y = refl
+      none-first false x y = refl
+
+      turned : (p x n : Bool) → (p && true && true && x && n) ≡ (true && true && x && p && n)
+      turned true x n = sym (and-true x n)
+        where
+          and-true : (x n : Bool) → (x && true && n) ≡ (x && n)
+          and-true true n = refl
+          and-true false n = refl
+      turned false true n = refl
+      turned false false n = refl
+
+      past : 16 ≤ w / 16777216 → leb (w / 16777216) 16 ≡ eqb (w / 16777216) 16
+      past h = go (decLe (w / 16777216) 16)
+        where
+          go : Dec (w / 16777216 ≤ 16) → leb (w / 16777216) 16 ≡ eqb (w / 16777216) 16
+          go (yes l) = let s : w / 16777216 ≡ 16 = omega arith in rw (le-leb _ _ l, eq-eqb _ _ s)
+          go (no l) = let m = lt-of-not-le l in rw (lt-leb _ _ m, ne-eqb (w / 16777216) 16 (λ s. omega arith))
+
+      by : (x y : Bool) → eqb (w / 4096 % 16) 0 ≡ x → eqb (w / 1048576 % 16) 0 ≡ y → (x && y && eqb (w / 268435456) 0) ≡ false
+          → (ltb op (length operations) && leb (w / 256 % 256) 15 && leb (w / 65536 % 256) 15 && leb (w / 16777216) 16 && (leb (w / 16777216) 15 || not (compares (operationOf op)))) ≡ (x && y && eqb (w / 16777216) 16 && ltb op (length operations) && not (compares (operationOf op)))
+      by true true c a f =
+          let z = eqb-false (w / 268435456) 0 f in
+          let h : 16 ≤ w / 16777216 = omega (arith, z) in
+          rw (result-fits c, first-fits a, lt-leb (w / 16777216) 15 h, past h) (turned (ltb op (length operations)) (eqb (w / 16777216) 16) (not (compares (operationOf op))))
+      by false y c a f = rw (result-over c) (none (ltb op (length operations)) (leb (w / 65536 % 256) 15) (leb (w / 16777216) 16) (leb (w / 16777216) 15 || not (compares (operationOf op))))
+      by true false c a f = rw (result-fits c, first-over a) (none-first (ltb op (length operations)) (leb (w / 16777216) 16) (leb (w / 16777216) 15 || not (compares (operationOf op))))

@@ -23,23 +23,16 @@ pub enum ImageCheck {
     Record(u32),
 }
 
-// Whether the record with that first word is in its bounds: the operation by its number, c, a and b. JEQ to JGE.U take no immediate.
+// Whether the record with that first word is in its bounds: the operation by its number, c, a and b. Where b is 16 the operand is the immediate, which JEQ to JGE.U do not take; below that only the operation is left to try.
 fn word_fits(w: u32) -> bool
     ensures { λ r. ⌜ r ≡ recordHolds (operationNumber (w % 256)) (w / 256 % 256) (w / 65536 % 256) (w / 16777216) ⌝ }
 {
-    if !is_operation(w % 0x80) {
-        return false;
+    let number = w % 0x80;
+    let registers = (w / 0x1000 % 16 == 0) & (w / 0x10_0000 % 16 == 0);
+    if registers & (w / 0x1000_0000 == 0) {
+        return is_operation(number);
     }
-    if (w / 0x1000 % 16 != 0) | (w / 0x10_0000 % 16 != 0) {
-        return false;
-    }
-    if w / 0x100_0000 < 16 {
-        return true;
-    }
-    if 16 < w / 0x100_0000 {
-        return false;
-    }
-    !is_compare(w % 0x80)
+    registers & (w / 0x100_0000 == 16) & is_operation(number) & !is_compare(number)
 }
 
 // What a pass over all records finds: that each holds, and whether none is a short form.
@@ -105,7 +98,7 @@ fn scan_each(image: &[u8]) -> ImageScan
     let n = word_at(image, 0);
     let from = 4 + 12 * n as usize;
     let mut at = from;
-    let mut long = true;
+    let mut all_long = true;
     while at < image.len() {
         let w = word_at(image, at);
         if !word_fits(w) {
@@ -114,15 +107,12 @@ fn scan_each(image: &[u8]) -> ImageScan
                 long: false,
             };
         }
+        all_long = all_long & word_long(w);
         at += 8;
-        if word_long(w) {
-            continue;
-        }
-        long = false;
     }
     ImageScan {
         check: ImageCheck::Holds,
-        long: long,
+        long: all_long,
     }
 }
 

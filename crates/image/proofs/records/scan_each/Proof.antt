@@ -2,22 +2,21 @@
 use borrow.Author.Needs.{needs}
 use native.Mathlib.Omega.{arith}
 use Prim.Native.Nat.{_+_, _-_, _*_}
-use mathlib.Core.Path.{_≡_, refl, sym, subst, _∙_}
-use mathlib.Core.Bool.{Bool}
+use mathlib.Core.Path.{_≡_, refl, sym, _∙_}
 use borrow.Author.Tests.{not-true}
 use lib.ListN.{length}
 use Rattle.image.specs.Table.{bodiesOf}
 use Rattle.image.proofs.Tests.{word-record}
 use Rattle.image.proofs.Images.{right-of, sized}
-use Rattle.image.proofs.Scanning.{Scanned, scanned-first, scanned-end, scanned-fault, scanned-word, and-long, and-short}
+use Rattle.image.proofs.Scanning.{Scanned, scanned-first, scanned-end, scanned-fault, scanned-word}
 use Rattle.image.proofs.records.scan_each.Statement.{statement}
 use Rattle.image.proofs.records.scan_each.Tie as tie
 
 abbrev Inv-loop : tie.InvT-loop
-Inv-loop image n from at₀ long₀ at long = (from ≡ bodiesOf image) × Scanned image at long
+Inv-loop image n from at₀ all-long₀ at all-long = (from ≡ bodiesOf image) × Scanned image at all-long
 
 abbrev μ-loop : tie.MeasureT-loop
-μ-loop image n from at₀ long₀ at long = length image - at
+μ-loop image n from at₀ all-long₀ at all-long = length image - at
 
 word-at-requires : tie.Need-word-at-requires Inv-loop μ-loop
 word-at-requires c κs = let s = right-of (c .before .args .image .now) (c .before .pre) in omega (arith, s .counted .word)
@@ -57,42 +56,30 @@ returns c =
     let s = sized img (c .before .before .before .before .before .before .before .pre) in
     let l = c .before .before .before .before .loop in
     let h = c .before .word-fits .ensures ∙ word-record img (l .at) (c .before .before .word-at2 .result) (λ j. c .before .before .before .before .before .before .shared-slice-known .given j .fits) (c .before .before .word-at2 .ensures) in
-    (scanned-fault img s (l .at) (l .long) (l .inv .1) (c .before .before .before .loop-test .taken) (sym h ∙ not-true (c .before .word-fits .result) (c .if1 .taken)) _ (l .inv .0), refl)
-
-add-at : tie.Need-add-at Inv-loop μ-loop
-add-at c = let s = sized (c .before .before .before .before .before .before .before .args .image .now) (c .before .before .before .before .before .before .before .pre) in let t = c .before .before .before .loop-test .taken in let l = c .before .before .before .before .loop .inv .1 in omega (arith, l .at-is, l .most, s .length-is)
+    (scanned-fault img s (l .at) (l .all-long) (l .inv .1) (c .before .before .before .loop-test .taken) (sym h ∙ not-true (c .before .word-fits .result) (c .if1 .taken)) _ (l .inv .0), refl)
 
 word-long-requires : tie.Need-word-long-requires Inv-loop μ-loop
 word-long-requires c κs = search needs
 
+add-at : tie.Need-add-at Inv-loop μ-loop
+add-at c = let s = sized (c .before .before .before .before .before .before .before .before .args .image .now) (c .before .before .before .before .before .before .before .before .pre) in let t = c .before .before .before .before .loop-test .taken in let l = c .before .before .before .before .before .loop .inv .1 in omega (arith, l .at-is, l .most, s .length-is)
+
 loop-less : tie.Need-loop-less Inv-loop μ-loop
-loop-less c = let t = c .before .before .before .before .before .loop-test .taken in omega arith
+loop-less c = let t = c .before .before .before .before .loop-test .taken in omega arith
 
 loop-again : tie.Need-loop-again Inv-loop μ-loop
 loop-again c =
-    let img = c .before .before .before .before .before .before .before .before .before .args .image .now in
-    let s = sized img (c .before .before .before .before .before .before .before .before .before .pre) in
-    let l = c .before .before .before .before .before .before .loop in
-    let g = scanned-word img s (l .at) (l .long) (l .inv .1) (c .before .before .before .before .before .loop-test .taken) _ (λ j. c .before .before .before .before .before .before .before .before .shared-slice-known .given j .fits) (c .before .before .before .before .word-at2 .ensures) _ (c .before .before .before .word-fits .ensures) (c .before .before .if1 .left) _ (c .before .word-long .ensures) in
-    (l .inv .0, subst (λ (x : Bool). Scanned img (l .at + 8) x) (and-long (l .long) _ (c .if2 .taken)) g)
-
-loop-less-2 : tie.Need-loop-less-2 Inv-loop μ-loop
-loop-less-2 c = let t = c .before .before .before .before .before .loop-test .taken in omega arith
-
-loop-again-2 : tie.Need-loop-again-2 Inv-loop μ-loop
-loop-again-2 c =
-    let img = c .before .before .before .before .before .before .before .before .before .args .image .now in
-    let s = sized img (c .before .before .before .before .before .before .before .before .before .pre) in
-    let l = c .before .before .before .before .before .before .loop in
-    let g = scanned-word img s (l .at) (l .long) (l .inv .1) (c .before .before .before .before .before .loop-test .taken) _ (λ j. c .before .before .before .before .before .before .before .before .shared-slice-known .given j .fits) (c .before .before .before .before .word-at2 .ensures) _ (c .before .before .before .word-fits .ensures) (c .before .before .if1 .left) _ (c .before .word-long .ensures) in
-    (l .inv .0, subst (λ (x : Bool). Scanned img (l .at + 8) x) (and-short (l .long) _ (c .if2 .left)) g)
+    let img = c .before .before .before .before .before .before .before .before .args .image .now in
+    let s = sized img (c .before .before .before .before .before .before .before .before .pre) in
+    let l = c .before .before .before .before .before .loop in
+    (l .inv .0, scanned-word img s (l .at) (l .all-long) (l .inv .1) (c .before .before .before .before .loop-test .taken) _ (λ j. c .before .before .before .before .before .before .before .shared-slice-known .given j .fits) (c .before .before .before .word-at2 .ensures) _ (c .before .before .word-fits .ensures) (c .before .if1 .left) _ (c .word-long .ensures))
 
 returns-2 : tie.Need-returns-2 Inv-loop μ-loop
 returns-2 c =
     let img = c .before .before .before .before .args .image .now in
     let s = sized img (c .before .before .before .before .pre) in
     let l = c .before .loop in
-    scanned-end img s (l .at) (l .long) (l .inv .1) (c .loop-test .left)
+    scanned-end img s (l .at) (l .all-long) (l .inv .1) (c .loop-test .left)
 
 pub scan-each-spec : {M : Type 1} → statement M
 scan-each-spec =
@@ -110,10 +97,8 @@ scan-each-spec =
     sub-t12
     cast-t14
     returns
-    add-at
     word-long-requires
+    add-at
     loop-less
     loop-again
-    loop-less-2
-    loop-again-2
     returns-2)
