@@ -1,22 +1,27 @@
 -- The records are tried one by one.
 -- Assumes nothing.
-use Prim.Native.Nat.{ℕ, _+_, _-_, _*_, _/_, _%_, _≤_, _<_}
+use Prim.Native.Nat.{ℕ, zero, suc, _+_, _-_, _*_, _/_, _%_, _≤_, _<_}
 use native.Mathlib.Nat.{sub-zero}
 use native.Mathlib.Omega.{arith}
 use mathlib.Core.Path.{_≡_, refl, sym, _∙_}
 use mathlib.Core.Bool.{Bool, true, false, not, _&&_}
 use mathlib.Core.List.{List}
 use lib.ListN.{length, getD}
-use borrow.Author.Tests.{not-false}
+use lib.Dec.{eqb}
+use borrow.Author.Tests.{ne-eqb, not-false}
 use Rattle.memory.specs.Word.{wordAt}
 use Rattle.operations.specs.Forms.{isShort, operationNumber}
 use Rattle.image.specs.Table.{bodiesOf}
 use Rattle.image.specs.Records.{recordHolds, recordAt, recordsFrom, totalOf}
 use Rattle.image.specs.Marks.{longFrom, longOnly}
 use Rattle.image.specs.declared.records.ImageCheck.the-variants.{Holds, Record}
-use Rattle.image.proofs.Tests.{word-record, word-short}
+use Rattle.image.proofs.Tests.{word-form, word-record, word-short}
 use Rattle.image.proofs.Images.{Sized, turn-on, turn-fault, turn-end}
 use Rattle.image.proofs.Long.{pass-first, pass-on, pass-end}
+
+none-more : (n k : ℕ) → eqb (n + k) 0 ≡ (eqb n 0 && eqb k 0)
+none-more zero k = let e : 0 + k ≡ k = omega arith in rw e
+none-more (suc n) k = rw (ne-eqb (suc n + k) 0 (λ e. omega arith), ne-eqb (suc n) 0 (λ e. omega arith))
 
 -- those before byte `at` are in order, and `long` tells whether they are long
 pub record Scanned (img : List ℕ) (at : ℕ) (long : Bool) : Type 0 where
@@ -54,6 +59,8 @@ module _ (img : List ℕ) (s : Sized img) where
           long-is = rw (c .at-is) (pass-on img long (c .index) (inside h)) ∙ c .long-is;
         }
 
-    -- the same by the record's first word
-    pub scanned-word : at < length img → (w : ℕ) → ((j : ℕ) → getD img j 0 < 256) → w ≡ wordAt img at → (fits : Bool) → fits ≡ recordHolds (operationNumber (w % 256)) (w / 256 % 256) (w / 65536 % 256) (w / 16777216) → not fits ≡ false → (b : Bool) → b ≡ not (isShort (w % 256)) → Scanned img (at + 8) (long && b)
-    scanned-word h w known e fits f t b g = rw (g, word-short img at w known e) (scanned-on h (sym (f ∙ word-record img at w known e) ∙ not-false fits t))
+    -- the same by the record's first word, where the short ones are counted
+    pub scanned-word : (short : ℕ) → long ≡ eqb short 0 → at < length img → (w : ℕ) → ((j : ℕ) → getD img j 0 < 256) → w ≡ wordAt img at → (fits : Bool) → fits ≡ recordHolds (operationNumber (w % 256)) (w / 256 % 256) (w / 65536 % 256) (w / 16777216) → not fits ≡ false
+        → Scanned img (at + 8) (eqb (short + w / 128 % 2) 0)
+    scanned-word short g h w known e fits f t =
+        rw (none-more short (w / 128 % 2), ← g, word-form w, word-short img at w known e) (scanned-on h (sym (f ∙ word-record img at w known e) ∙ not-false fits t))
