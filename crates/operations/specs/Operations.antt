@@ -16,7 +16,7 @@ use Rattle.operations.specs.declared.System.the-variants as system
 use Rattle.operations.specs.declared.Access.{Access}
 use Rattle.operations.specs.declared.Access.the-variants.{Nothing, Read, Write}
 
--- the last, RSTV, has number 78; a higher byte breaks rule 3
+-- the last, RSTV, has number 78; a higher number breaks rule 3
 abbrev pub operations : List Operation
 operations =
     Nop  -- 0 NOP

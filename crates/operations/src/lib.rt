@@ -183,7 +183,7 @@ pub enum Access {
     Write,
 }
 
-// Of the operation with a number, as decode has it.
+// Of the operation with a number.
 pub fn access_of(number: u8) -> Access
     ensures { λ r. ⌜ r ≡ accessOf (operationOf number) ⌝ }
 {
