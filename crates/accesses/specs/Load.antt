@@ -13,8 +13,8 @@ use Rattle.registers.specs.Registers.{psw, withD, withA, withPc, plusOf, guards
 use Rattle.registers.specs.declared.Registers.{Registers}
 use Rattle.protection.specs.declared.range.Range.{Range}
 use Rattle.protection.specs.declared.range.Right.the-variants.{Read}
-use Rattle.acts.specs.Acts.{Ended, ended, done}
-use Rattle.acts.specs.declared.How.the-variants as how
+use Rattle.acts.specs.Acts as acts
+use Rattle.acts.specs.Acts.{Effect, Sets}
 use Rattle.accesses.specs.Reach.{reachOf}
 use Rattle.accesses.specs.declared.reach.Reach.{Reach}
 use Rattle.accesses.specs.declared.reach.Reach.the-variants.{At, Traps}
@@ -74,11 +74,11 @@ putOf LdHu c v r = withD c v r
 putOf LdW c v r = withD c v r
 putOf LdA c v r = withA c v r
 
-abbrev pub loadBy : Load → Instruction → Registers → Memory → Reach → Ended
-loadBy op i r m (Traps t) = ended (how.Trap t) r
-loadBy op i r m (At at) = done (withPc (i .next) (putOf op (i .c) (readOf op (m .bytes) at) r))
+abbrev pub loadBy : Load → Instruction → Registers → Memory → Reach → Effect
+loadBy op i r m (Traps t) = acts.Traps t
+loadBy op i r m (At at) = Sets (withPc (i .next) (putOf op (i .c) (readOf op (m .bytes) at) r))
 
 -- register c = the value at A[a] plus immediate
-unfoldable pub loadOf : Load → Instruction → Registers → List Range → Memory → Ended
+unfoldable pub loadOf : Load → Instruction → Registers → List Range → Memory → Effect
 loadOf op i r rs m =
     loadBy op i r m (reachOf (m .windows) (length (m .bytes)) (r .core) rs Read (loadGuards op (psw r) (i .c)) (sizeOf op) (alignmentOf op) (addressIn i (r .a)))

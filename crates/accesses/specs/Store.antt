@@ -11,8 +11,8 @@ use Rattle.registers.specs.Registers.{withPc}
 use Rattle.registers.specs.declared.Registers.{Registers}
 use Rattle.protection.specs.declared.range.Range.{Range}
 use Rattle.protection.specs.declared.range.Right.the-variants as right
-use Rattle.acts.specs.Acts.{Act, Ends, Write, ended}
-use Rattle.acts.specs.declared.How.the-variants as how
+use Rattle.acts.specs.Acts as acts
+use Rattle.acts.specs.Acts.{Act, Ends, Write}
 use Rattle.accesses.specs.Reach.{reachOf}
 use Rattle.accesses.specs.Load.{addressIn}
 use Rattle.accesses.specs.declared.reach.Reach.{Reach}
@@ -39,7 +39,7 @@ valueOf StW c d a = getD d c 0
 valueOf StA c d a = getD a c 0
 
 abbrev pub storeBy : Store → Instruction → Registers → Reach → Act
-storeBy op i r (Traps t) = Ends (ended (how.Trap t) r)
+storeBy op i r (Traps t) = Ends (acts.Traps t)
 storeBy op i r (At at) = Write op at (valueOf op (i .c) (r .d) (r .a)) (withPc (i .next) r)
 
 -- register c goes to A[a] plus immediate; no register is written

@@ -21,7 +21,7 @@ ghost use Rattle.memory.specs.Memory.{lent};
 ghost use Rattle.registers.specs.Registers.{registers, withD, withPc};
 ghost use Rattle.protection.specs.Range.{rangesIn};
 ghost use Rattle.image.specs.Fetch.{FieldsHold};
-ghost use Rattle.acts.specs.Acts.{ended, done};
+ghost use Rattle.acts.specs.Acts.{Sets, ended, endedOf};
 ghost use Rattle.accesses.specs.Load.{extendByte, extendHalf, loadOf};
 
 // A byte as a signed word.
@@ -56,7 +56,7 @@ fn put_data(
     next: u32,
 ) -> How
     requires { ⌜ c < 16 ⌝ }
-    ensures { λ r. ⌜ ended r (registers (now (d .exit)) (now (a .exit)) (now (core .exit))) ≡ done (withPc next (withD c value (registers (now (d .entry)) (now (a .entry)) (now (core .entry))))) ⌝ }
+    ensures { λ r. ⌜ ended r (registers (now (d .exit)) (now (a .exit)) (now (core .exit))) ≡ endedOf (Sets (withPc next (withD c value (registers (now (d .entry)) (now (a .entry)) (now (core .entry)))))) (registers (now (d .entry)) (now (a .entry)) (now (core .entry))) ⌝ }
 {
     d[c] = value;
     core[PC] = next;
@@ -77,7 +77,7 @@ pub fn execute_load(
     i: Instruction,
 ) -> How
     requires { ⌜ FieldsHold i ⌝ }
-    ensures { λ r. ⌜ ended r (registers (now (d .exit)) (now (a .exit)) (now (core .exit))) ≡ loadOf op i (registers (now (d .entry)) (now (a .entry)) (now (core .entry))) (rangesIn (now (ranges .entry))) (lent base (now (window .entry)) base2 (now (window2 .entry))) ⌝ }
+    ensures { λ r. ⌜ ended r (registers (now (d .exit)) (now (a .exit)) (now (core .exit))) ≡ endedOf (loadOf op i (registers (now (d .entry)) (now (a .entry)) (now (core .entry))) (rangesIn (now (ranges .entry))) (lent base (now (window .entry)) base2 (now (window2 .entry)))) (registers (now (d .entry)) (now (a .entry)) (now (core .entry))) ⌝ }
 {
     let c = i.c;
     let x = i.a;

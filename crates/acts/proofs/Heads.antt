@@ -1,4 +1,4 @@
--- Of the core registers, a save writes PCXI and FCX alone; a return to the lower context too, and one to the upper context PSW besides.
+-- Of the core registers, a save and a return to the lower context write PCXI and FCX alone.
 -- Assumes nothing.
 use Prim.Native.Nat.{ℕ}
 use native.Mathlib.Omega.{arith}
@@ -8,26 +8,24 @@ use mathlib.Core.List.{List}
 use lib.ListN.{getD}
 use lib.Dec.{eqb}
 use lib.Seq.{getD-set-other}
-use Rattle.fields.specs.Psw.{PSW·PRS}
 use Rattle.memory.specs.Memory.{Memory}
 use Rattle.memory.specs.Word.{wordAt}
 use Rattle.areas.specs.Link.{linkOf}
 use Rattle.areas.specs.Place.{placeOf}
 use Rattle.areas.specs.declared.link.Place.{Place}
 use Rattle.areas.specs.declared.link.Place.the-variants as place
-use Rattle.registers.specs.Registers.{registers, psw, pcxi, withPc}
+use Rattle.registers.specs.Registers.{registers, pcxi}
 use Rattle.registers.specs.declared.Registers.{Registers}
 use Rattle.contexts.specs.Save.{Saving, roomOf, takeOf, foreseenOf, saving, savedBy, saveAtOf, saveBy, saveOf}
 use Rattle.contexts.specs.Restore.{Returning, loadOf, returning, returnBy, returnOf}
 use Rattle.contexts.specs.declared.context.Half.{Half}
-use Rattle.contexts.specs.declared.context.Half.the-variants.{Upper, Lower}
+use Rattle.contexts.specs.declared.context.Half.the-variants.{Lower}
 use Rattle.contexts.specs.declared.save.Room.{Room}
 use Rattle.contexts.specs.declared.save.Room.the-variants as room
 use Rattle.contexts.specs.declared.save.Saved.{Saved}
 use Rattle.contexts.specs.declared.save.Saved.the-variants as saved
 use Rattle.contexts.specs.declared.restore.Returned.{Returned}
-use Rattle.acts.specs.Steady.{Steady}
-use Rattle.acts.proofs.Steadiness.{steady-pc}
+use Rattle.acts.proofs.Steadiness.{Steady}
 
 -- ---- a save
 module _ (half : Half) (words core : List ℕ) (m : Memory) (k : ℕ) (n2 : k ≡ 2 → ⊥) (n3 : k ≡ 3 → ⊥) where
@@ -54,48 +52,22 @@ module _ (half : Half) (words core : List ℕ) (m : Memory) (k : ℕ) (n2 : k �
 
 -- after a save that came to `s`
 pub save-steady : (half : Half) (words : List ℕ) {core : List ℕ} {r : Registers} (m : Memory) {n : Memory} {s : Saved} → saving s core n ≡ saveOf half words (r .core) m → Steady r (registers (r .d) (r .a) core)
-save-steady half words {core} {r} m {n} {s} e = rw (ap (λ (v : Saving). v .core) e) (record {
-  interrupts = save-other half words (r .core) m 5 (λ e. omega arith) (λ e. omega arith);
-  protection = save-other half words (r .core) m 9 (λ e. omega arith) (λ e. omega arith);
-  range-set = ap PSW·PRS (save-other half words (r .core) m 1 (λ e. omega arith) (λ e. omega arith));
-})
+save-steady half words {core} {r} m {n} {s} e = record { same = rw (ap (λ (v : Saving). v .core) e, save-other half words (r .core) m 5 (λ e. omega arith) (λ e. omega arith), save-other half words (r .core) m 9 (λ e. omega arith) (λ e. omega arith), save-other half words (r .core) m 1 (λ e. omega arith) (λ e. omega arith)) refl }
 
 -- ---- a return
 module _ (r : Registers) (m : Memory) (k : ℕ) (n2 : k ≡ 2 → ⊥) (n3 : k ≡ 3 → ⊥) where
-  load-upper : (k ≡ 1 → ⊥) → (at : ℕ) → getD (loadOf Upper at r (m .bytes) .registers .core) k 0 ≡ getD (r .core) k 0
-  unfolding loadOf
-  load-upper n1 at = rw (getD-set-other {A = ℕ} _ 3 k _ 0 n3, getD-set-other {A = ℕ} _ 2 k _ 0 n2, getD-set-other {A = ℕ} _ 1 k _ 0 n1)
-
   load-lower : (at : ℕ) → getD (loadOf Lower at r (m .bytes) .registers .core) k 0 ≡ getD (r .core) k 0
   unfolding loadOf
   load-lower at = rw (getD-set-other {A = ℕ} _ 3 k _ 0 n3, getD-set-other {A = ℕ} _ 2 k _ 0 n2)
 
-  by-place : (half : Half) → ((at : ℕ) → getD (loadOf half at r (m .bytes) .registers .core) k 0 ≡ getD (r .core) k 0) → (p : Place) → getD (returnBy half r m p .registers .core) k 0 ≡ getD (r .core) k 0
-  by-place half f place.Outside = refl
-  by-place half f (place.At at) = f at
-
-  pub upper-other : (k ≡ 1 → ⊥) → getD (returnOf Upper r m .registers .core) k 0 ≡ getD (r .core) k 0
-  unfolding returnOf
-  upper-other n1 = by-place Upper (load-upper n1) (placeOf m (linkOf (pcxi r)))
-
   lower-other : getD (returnOf Lower r m .registers .core) k 0 ≡ getD (r .core) k 0
   unfolding returnOf
-  lower-other = by-place Lower load-lower (placeOf m (linkOf (pcxi r)))
+  lower-other = by (placeOf m (linkOf (pcxi r)))
+    where
+      by : (p : Place) → getD (returnBy Lower r m p .registers .core) k 0 ≡ getD (r .core) k 0
+      by place.Outside = refl
+      by (place.At at) = load-lower at
 
 -- after a return to the lower context that came to `s`
 pub return-steady : {r q : Registers} (m : Memory) {n : Memory} {s : Returned} → returning s q n ≡ returnOf Lower r m → Steady r q
-return-steady {r} {q} m {n} {s} e = rw (ap (λ (v : Returning). v .registers) e) (record {
-  interrupts = lower-other r m 5 (λ e. omega arith) (λ e. omega arith);
-  protection = lower-other r m 9 (λ e. omega arith) (λ e. omega arith);
-  range-set = ap PSW·PRS (lower-other r m 1 (λ e. omega arith) (λ e. omega arith));
-})
-
--- with PSW loaded and a new PC, where PRS is what it was
-pub upper-steady : (v : ℕ) (r : Registers) (m : Memory) → PSW·PRS (psw (returnOf Upper r m .registers)) ≡ PSW·PRS (psw r) → Steady r (withPc v (returnOf Upper r m .registers))
-upper-steady v r m e =
-    let s = steady-pc v (returnOf Upper r m .registers) in
-    record {
-      interrupts = s .interrupts ∙ upper-other r m 5 (λ e. omega arith) (λ e. omega arith) (λ e. omega arith);
-      protection = s .protection ∙ upper-other r m 9 (λ e. omega arith) (λ e. omega arith) (λ e. omega arith);
-      range-set = s .range-set ∙ e;
-    }
+return-steady {r} {q} m {n} {s} e = record { same = rw (ap (λ (v : Returning). v .registers) e, lower-other r m 5 (λ e. omega arith) (λ e. omega arith), lower-other r m 9 (λ e. omega arith) (λ e. omega arith), lower-other r m 1 (λ e. omega arith) (λ e. omega arith)) refl }

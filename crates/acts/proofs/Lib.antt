@@ -1,4 +1,3 @@
 -- Laws of acts.
 pub mod Steadiness
 pub mod Heads
-pub mod Plains

@@ -1,3 +1,2 @@
 -- Acts.
 pub mod Acts
-pub mod Steady

@@ -9,16 +9,15 @@ use Rattle.registers.specs.Registers.{psw}
 use Rattle.registers.specs.declared.Registers.{Registers}
 use Rattle.events.specs.Traps.{PRIV}
 use Rattle.contexts.specs.declared.context.Half.the-variants.{Lower}
-use Rattle.acts.specs.Acts.{Save, Ends, ended}
-use Rattle.acts.specs.declared.How.the-variants as how
+use Rattle.acts.specs.Acts.{Save, Ends, Traps}
 use Rattle.calls.specs.Saves.{svlcxOf, bisrOf, lowerSaveOf, lowerThen, forbids}
 
 module _ (imm next : ℕ) (r : Registers) where
-  pub lower-forbidden : (b : Bool) → forbids b (psw r) ≡ true → lowerSaveOf b imm next r ≡ Ends (ended (how.Trap PRIV) r)
+  pub lower-forbidden : (b : Bool) → forbids b (psw r) ≡ true → lowerSaveOf b imm next r ≡ Ends (Traps PRIV)
   unfolding lowerSaveOf forbids bisrOf
   lower-forbidden true e = by (isSupervisor (psw r)) e
     where
-      by : (t : Bool) → cond t false true ≡ true → cond t (Save Lower next (lowerThen true imm next)) (Ends (ended (how.Trap PRIV) r)) ≡ Ends (ended (how.Trap PRIV) r)
+      by : (t : Bool) → cond t false true ≡ true → cond t (Save Lower next (lowerThen true imm next)) (Ends (Traps PRIV)) ≡ Ends (Traps PRIV)
       by true e = absurd (let z : _≡_ {A = ℕ} 0 1 = cc in omega arith)
       by false e = refl
   lower-forbidden false e = absurd (let z : _≡_ {A = ℕ} 0 1 = cc in omega arith)
@@ -27,7 +26,7 @@ module _ (imm next : ℕ) (r : Registers) where
   unfolding lowerSaveOf forbids bisrOf svlcxOf
   lower-saves true e = by (isSupervisor (psw r)) e
     where
-      by : (t : Bool) → cond t false true ≡ false → cond t (Save Lower next (lowerThen true imm next)) (Ends (ended (how.Trap PRIV) r)) ≡ Save Lower next (lowerThen true imm next)
+      by : (t : Bool) → cond t false true ≡ false → cond t (Save Lower next (lowerThen true imm next)) (Ends (Traps PRIV)) ≡ Save Lower next (lowerThen true imm next)
       by true e = refl
       by false e = absurd (let z : _≡_ {A = ℕ} 0 1 = cc in omega arith)
   lower-saves false e = refl

@@ -7,8 +7,7 @@ use Rattle.image.specs.declared.fetch.Instruction.{Instruction}
 use Rattle.registers.specs.Registers.{A, pc, plusOf}
 use Rattle.registers.specs.declared.Registers.{Registers}
 use Rattle.events.specs.Traps.{SYS}
-use Rattle.acts.specs.Acts.{Act, Ends, ended}
-use Rattle.acts.specs.declared.How.the-variants as how
+use Rattle.acts.specs.Acts.{Act, Ends, TrapsAfter}
 use Rattle.calls.specs.Saves.{callOf, svlcxOf, bisrOf}
 use Rattle.calls.specs.Returns.{retOf, rfeOf, rslcxOf}
 
@@ -42,4 +41,4 @@ contextOp Svlcx i r = svlcxOf (i .next)
 contextOp Rslcx i r = rslcxOf (i .next) r
 contextOp Bisr i r = bisrOf (i .imm) (i .next) r
 -- 6/immediate's low 8 bits, with the next instruction as the return address
-contextOp Syscall i r = Ends (ended (how.TrapAfter (SYS (i .imm))) r)
+contextOp Syscall i r = Ends (TrapsAfter (SYS (i .imm)))

@@ -12,9 +12,8 @@ use Rattle.registers.specs.declared.Registers.{Registers}
 use Rattle.events.specs.Traps.{CDU, CSU, CTYP, NEST}
 use Rattle.contexts.specs.declared.context.Half.{Half}
 use Rattle.contexts.specs.declared.context.Half.the-variants.{Upper, Lower}
-use Rattle.acts.specs.Acts.{Act, Ends, Return, ended}
-use Rattle.acts.specs.declared.How.{How}
-use Rattle.acts.specs.declared.How.the-variants as how
+use Rattle.acts.specs.Acts as acts
+use Rattle.acts.specs.Acts.{Act, Ends, Return}
 use Rattle.calls.specs.declared.returns.Previous.{Previous}
 use Rattle.calls.specs.declared.returns.Previous.the-variants.{There, Traps}
 
@@ -27,19 +26,15 @@ isOf Lower word = not (PCXI·UL word)
 unfoldable pub previousOf : Half → ℕ → Previous
 previousOf half word = cond (eqb (linkOf word .0) 0) (Traps CSU) (cond (isOf half word) There (Traps CTYP))
 
-abbrev pub returning : Registers → Act → Previous → Act
-returning r act (Traps t) = Ends (ended (how.Trap t) r)
-returning r act There = act
-
--- a return that is done says whether PSW.PRS is what it was
-abbrev pub doneOf : ℕ → ℕ → How
-doneOf set psw = cond (eqb (PSW·PRS psw) set) how.Done how.Switched
+abbrev pub ifThere : Act → Previous → Act
+ifThere act (Traps t) = Ends (acts.Traps t)
+ifThere act There = act
 
 -- RET: PC = A11, upper return, all of PSW. 3/3 where CDC would underflow. ICR stays
 unfoldable pub retOf : Registers → Act
 retOf r =
-    cond (underflowsDown (psw r)) (Ends (ended (how.Trap CDU) r))
-    (returning r (Return Upper (withPc (even (A r 11)))) (previousOf Upper (pcxi r)))
+    cond (underflowsDown (psw r)) (Ends (acts.Traps CDU))
+    (ifThere (Return Upper (withPc (even (A r 11)))) (previousOf Upper (pcxi r)))
 
 -- RFE also sets IE, CCPN from PIE, PCPN as they were before the load
 abbrev pub rfeThen : Registers → Registers → Registers
@@ -48,8 +43,8 @@ rfeThen r q = withPc (even (A r 11)) (withIcr (icrOf (icr r) (PCXI·PIE (pcxi r)
 -- 3/7 with CDE 1 and count above 0
 unfoldable pub rfeOf : Registers → Act
 rfeOf r =
-    returning r (cond (nested (psw r)) (Ends (ended (how.Trap NEST) r)) (Return Upper (rfeThen r))) (previousOf Upper (pcxi r))
+    ifThere (cond (nested (psw r)) (Ends (acts.Traps NEST)) (Return Upper (rfeThen r))) (previousOf Upper (pcxi r))
 
 -- RSLCX: lower return, the saved PC passed over
 unfoldable pub rslcxOf : ℕ → Registers → Act
-rslcxOf next r = returning r (Return Lower (withPc next)) (previousOf Lower (pcxi r))
+rslcxOf next r = ifThere (Return Lower (withPc next)) (previousOf Lower (pcxi r))

@@ -8,8 +8,7 @@ use Rattle.registers.specs.Registers.{psw, icr, withA, withPc, withPsw, withIcr
 use Rattle.registers.specs.declared.Registers.{Registers}
 use Rattle.events.specs.Traps.{CDO, PRIV}
 use Rattle.contexts.specs.declared.context.Half.the-variants.{Upper, Lower}
-use Rattle.acts.specs.Acts.{Act, Ends, Save, ended}
-use Rattle.acts.specs.declared.How.the-variants as how
+use Rattle.acts.specs.Acts.{Act, Ends, Traps, Save}
 
 -- CDC goes up if CDE is 1, CDE becomes 1, A11 = PC + 4, and PC is the call's target
 unfoldable pub calledThen : ℕ → ℕ → Registers → Registers
@@ -17,7 +16,7 @@ calledThen to next r = withPc (even to) (withPsw (calledOf (psw r)) (withA 11 ne
 
 -- a call is an upper save; the save finds PSW as it was. 3/2 where CDC would overflow. The saved PC is of no use in an upper save
 unfoldable pub callOf : ℕ → ℕ → Registers → Act
-callOf to next r = cond (overflowsUp (psw r)) (Ends (ended (how.Trap CDO) r)) (Save Upper 0 (calledThen to next))
+callOf to next r = cond (overflowsUp (psw r)) (Ends (Traps CDO)) (Save Upper 0 (calledThen to next))
 
 -- SVLCX: a lower save with the next instruction's address as saved PC
 unfoldable pub svlcxOf : ℕ → Act
@@ -29,7 +28,7 @@ bisrThen imm next r = withPc next (withIcr (icrOf (icr r) true imm) r)
 
 -- BISR: 1/1 unless Supervisor; the same save as SVLCX
 unfoldable pub bisrOf : ℕ → ℕ → Registers → Act
-bisrOf imm next r = cond (isSupervisor (psw r)) (Save Lower next (bisrThen imm next)) (Ends (ended (how.Trap PRIV) r))
+bisrOf imm next r = cond (isSupervisor (psw r)) (Save Lower next (bisrThen imm next)) (Ends (Traps PRIV))
 
 -- the two by whether it is BISR
 unfoldable pub lowerSaveOf : Bool → ℕ → ℕ → Registers → Act

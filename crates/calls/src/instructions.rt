@@ -17,7 +17,6 @@ ghost use Rattle.memory.specs.Memory.{lent};
 ghost use Rattle.registers.specs.Registers.{registers};
 ghost use Rattle.image.specs.Fetch.{FieldsHold};
 ghost use Rattle.acts.specs.Acts.{did, performOf};
-ghost use Rattle.acts.specs.Steady.{plainly, Keeps};
 ghost use Rattle.calls.specs.Instructions.{targetOf, isBisr, contextOp};
 
 // Where CALL and CALLI go.
@@ -66,8 +65,7 @@ pub fn execute_context(
     i: Instruction,
 ) -> How
     requires { ⌜ FieldsHold i ⌝ }
-    ensures { λ r. ⌜ did (plainly r) (registers (now (d .exit)) (now (a .exit)) (now (core .exit))) (lent base (now (window .exit)) base2 (now (window2 .exit))) ≡ performOf (contextOp op i (registers (now (d .entry)) (now (a .entry)) (now (core .entry)))) (registers (now (d .entry)) (now (a .entry)) (now (core .entry))) (lent base (now (window .entry)) base2 (now (window2 .entry))) ⌝ }
-    ensures { λ r. ⌜ Keeps r (registers (now (d .entry)) (now (a .entry)) (now (core .entry))) (registers (now (d .exit)) (now (a .exit)) (now (core .exit))) ⌝ }
+    ensures { λ r. ⌜ did r (registers (now (d .exit)) (now (a .exit)) (now (core .exit))) (lent base (now (window .exit)) base2 (now (window2 .exit))) ≡ performOf (contextOp op i (registers (now (d .entry)) (now (a .entry)) (now (core .entry)))) (registers (now (d .entry)) (now (a .entry)) (now (core .entry))) (lent base (now (window .entry)) base2 (now (window2 .entry))) ⌝ }
 {
     match op {
         Context::Call | Context::Calli => {

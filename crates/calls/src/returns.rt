@@ -1,6 +1,8 @@
 // RET, RFE and RSLCX.
 
 use acts::How;
+use acts::control_of;
+use acts::settled;
 use areas::link::link_of;
 use contexts::context::Half;
 use contexts::restore::Returned;
@@ -23,8 +25,7 @@ ghost use mathlib.Core.Path.{_≡_};
 ghost use Rattle.memory.specs.Memory.{lent};
 ghost use Rattle.registers.specs.Registers.{registers};
 ghost use Rattle.acts.specs.Acts.{did, performOf};
-ghost use Rattle.acts.specs.Steady.{plainly, Keeps};
-ghost use Rattle.calls.specs.Returns.{isOf, previousOf, doneOf, retOf, rfeOf, rslcxOf};
+ghost use Rattle.calls.specs.Returns.{isOf, previousOf, retOf, rfeOf, rslcxOf};
 
 // Whether there is a context of that half to return to.
 pub enum Previous {
@@ -55,16 +56,6 @@ fn previous_context(word: u32, half: Half) -> Previous
     Previous::Traps(CTYP)
 }
 
-// A return is done; PSW.PRS was `set` before it.
-fn return_done(set: usize, psw: u32) -> How
-    ensures { λ r. ⌜ r ≡ doneOf set psw ⌝ }
-{
-    if fields::psw::protection_set(psw) == set {
-        return How::Done;
-    }
-    How::Switched
-}
-
 pub fn ret(
     base: u32,
     window: &mut [u8],
@@ -74,8 +65,7 @@ pub fn ret(
     a: &mut [u32; 16],
     core: &mut [u32; 10],
 ) -> How
-    ensures { λ r. ⌜ did (plainly r) (registers (now (d .exit)) (now (a .exit)) (now (core .exit))) (lent base (now (window .exit)) base2 (now (window2 .exit))) ≡ performOf (retOf (registers (now (d .entry)) (now (a .entry)) (now (core .entry)))) (registers (now (d .entry)) (now (a .entry)) (now (core .entry))) (lent base (now (window .entry)) base2 (now (window2 .entry))) ⌝ }
-    ensures { λ r. ⌜ Keeps r (registers (now (d .entry)) (now (a .entry)) (now (core .entry))) (registers (now (d .exit)) (now (a .exit)) (now (core .exit))) ⌝ }
+    ensures { λ r. ⌜ did r (registers (now (d .exit)) (now (a .exit)) (now (core .exit))) (lent base (now (window .exit)) base2 (now (window2 .exit))) ≡ performOf (retOf (registers (now (d .entry)) (now (a .entry)) (now (core .entry)))) (registers (now (d .entry)) (now (a .entry)) (now (core .entry))) (lent base (now (window .entry)) base2 (now (window2 .entry))) ⌝ }
 {
     if underflows(core[PSW]) {
         return How::Trap(CDU);
@@ -84,12 +74,12 @@ pub fn ret(
         Previous::Traps(t) => How::Trap(t),
         Previous::There => {
             let to = new_pc(a[11]);
-            let set = fields::psw::protection_set(core[PSW]);
+            let before = control_of(core);
             match restore(base, window, base2, window2, d, a, core, Half::Upper) {
                 Returned::Outside => How::Stopped(Stop::Outside),
                 Returned::Done => {
                     core[PC] = to;
-                    return_done(set, core[PSW])
+                    settled(before, core)
                 }
             }
         }
@@ -105,8 +95,7 @@ pub fn rfe(
     a: &mut [u32; 16],
     core: &mut [u32; 10],
 ) -> How
-    ensures { λ r. ⌜ did (plainly r) (registers (now (d .exit)) (now (a .exit)) (now (core .exit))) (lent base (now (window .exit)) base2 (now (window2 .exit))) ≡ performOf (rfeOf (registers (now (d .entry)) (now (a .entry)) (now (core .entry)))) (registers (now (d .entry)) (now (a .entry)) (now (core .entry))) (lent base (now (window .entry)) base2 (now (window2 .entry))) ⌝ }
-    ensures { λ r. ⌜ Keeps r (registers (now (d .entry)) (now (a .entry)) (now (core .entry))) (registers (now (d .exit)) (now (a .exit)) (now (core .exit))) ⌝ }
+    ensures { λ r. ⌜ did r (registers (now (d .exit)) (now (a .exit)) (now (core .exit))) (lent base (now (window .exit)) base2 (now (window2 .exit))) ≡ performOf (rfeOf (registers (now (d .entry)) (now (a .entry)) (now (core .entry)))) (registers (now (d .entry)) (now (a .entry)) (now (core .entry))) (lent base (now (window .entry)) base2 (now (window2 .entry))) ⌝ }
 {
     match previous_context(core[PCXI], Half::Upper) {
         Previous::Traps(t) => How::Trap(t),
@@ -120,12 +109,13 @@ pub fn rfe(
                 pcxi::interrupts(core[PCXI]),
                 pcxi::priority(core[PCXI]),
             );
+            let before = control_of(core);
             match restore(base, window, base2, window2, d, a, core, Half::Upper) {
                 Returned::Outside => How::Stopped(Stop::Outside),
                 Returned::Done => {
                     core[ICR] = icr;
                     core[PC] = to;
-                    How::Switched
+                    settled(before, core)
                 }
             }
         }
@@ -142,8 +132,7 @@ pub fn rslcx(
     core: &mut [u32; 10],
     next: u32,
 ) -> How
-    ensures { λ r. ⌜ did (plainly r) (registers (now (d .exit)) (now (a .exit)) (now (core .exit))) (lent base (now (window .exit)) base2 (now (window2 .exit))) ≡ performOf (rslcxOf next (registers (now (d .entry)) (now (a .entry)) (now (core .entry)))) (registers (now (d .entry)) (now (a .entry)) (now (core .entry))) (lent base (now (window .entry)) base2 (now (window2 .entry))) ⌝ }
-    ensures { λ r. ⌜ Keeps r (registers (now (d .entry)) (now (a .entry)) (now (core .entry))) (registers (now (d .exit)) (now (a .exit)) (now (core .exit))) ⌝ }
+    ensures { λ r. ⌜ did r (registers (now (d .exit)) (now (a .exit)) (now (core .exit))) (lent base (now (window .exit)) base2 (now (window2 .exit))) ≡ performOf (rslcxOf next (registers (now (d .entry)) (now (a .entry)) (now (core .entry)))) (registers (now (d .entry)) (now (a .entry)) (now (core .entry))) (lent base (now (window .entry)) base2 (now (window2 .entry))) ⌝ }
 {
     match previous_context(core[PCXI], Half::Lower) {
         Previous::Traps(t) => How::Trap(t),

@@ -1,6 +1,8 @@
 // CALL and CALLI, SVLCX and BISR.
 
 use acts::How;
+use acts::control_of;
+use acts::settled;
 use contexts::save::Saved;
 use contexts::save::save_lower;
 use contexts::save::save_upper;
@@ -16,7 +18,6 @@ ghost use mathlib.Core.Path.{_≡_};
 ghost use Rattle.memory.specs.Memory.{lent};
 ghost use Rattle.registers.specs.Registers.{registers};
 ghost use Rattle.acts.specs.Acts.{did, performOf};
-ghost use Rattle.acts.specs.Steady.{plainly, Keeps};
 ghost use Rattle.calls.specs.Saves.{calledThen, callOf, forbids, lowerThen, lowerSaveOf};
 
 // What a call sets after its save.
@@ -40,8 +41,7 @@ pub fn call(
     to: u32,
     next: u32,
 ) -> How
-    ensures { λ r. ⌜ did (plainly r) (registers (now (d .exit)) (now (a .exit)) (now (core .exit))) (lent base (now (window .exit)) base2 (now (window2 .exit))) ≡ performOf (callOf to next (registers (now (d .entry)) (now (a .entry)) (now (core .entry)))) (registers (now (d .entry)) (now (a .entry)) (now (core .entry))) (lent base (now (window .entry)) base2 (now (window2 .entry))) ⌝ }
-    ensures { λ r. ⌜ Keeps r (registers (now (d .entry)) (now (a .entry)) (now (core .entry))) (registers (now (d .exit)) (now (a .exit)) (now (core .exit))) ⌝ }
+    ensures { λ r. ⌜ did r (registers (now (d .exit)) (now (a .exit)) (now (core .exit))) (lent base (now (window .exit)) base2 (now (window2 .exit))) ≡ performOf (callOf to next (registers (now (d .entry)) (now (a .entry)) (now (core .entry)))) (registers (now (d .entry)) (now (a .entry)) (now (core .entry))) (lent base (now (window .entry)) base2 (now (window2 .entry))) ⌝ }
 {
     if overflows(core[PSW]) {
         return How::Trap(CDO);
@@ -104,20 +104,17 @@ pub fn save_lower_half(
     imm: u32,
     next: u32,
 ) -> How
-    ensures { λ r. ⌜ did (plainly r) (registers (now (d .exit)) (now (a .exit)) (now (core .exit))) (lent base (now (window .exit)) base2 (now (window2 .exit))) ≡ performOf (lowerSaveOf bisr imm next (registers (now (d .entry)) (now (a .entry)) (now (core .entry)))) (registers (now (d .entry)) (now (a .entry)) (now (core .entry))) (lent base (now (window .entry)) base2 (now (window2 .entry))) ⌝ }
-    ensures { λ r. ⌜ Keeps r (registers (now (d .entry)) (now (a .entry)) (now (core .entry))) (registers (now (d .exit)) (now (a .exit)) (now (core .exit))) ⌝ }
+    ensures { λ r. ⌜ did r (registers (now (d .exit)) (now (a .exit)) (now (core .exit))) (lent base (now (window .exit)) base2 (now (window2 .exit))) ≡ performOf (lowerSaveOf bisr imm next (registers (now (d .entry)) (now (a .entry)) (now (core .entry)))) (registers (now (d .entry)) (now (a .entry)) (now (core .entry))) (lent base (now (window .entry)) base2 (now (window2 .entry))) ⌝ }
 {
     if is_forbidden(bisr, core[PSW]) {
         return How::Trap(PRIV);
     }
+    let before = control_of(core);
     match save_lower(base, window, base2, window2, d, a, core, next) {
         Saved::Stops(s) => How::Stopped(s),
         Saved::Done => {
             set_after(d, a, core, bisr, imm, next);
-            if bisr {
-                return How::Switched;
-            }
-            How::Done
+            settled(before, core)
         }
         Saved::Depleted => {
             // an FCD entry finds IE and CCPN as they are set here

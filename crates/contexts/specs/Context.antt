@@ -21,3 +21,8 @@ upperOf r =
 unfoldable pub lowerOf : ℕ → Registers → List ℕ
 lowerOf saved-pc r =
     pcxi r ∷ saved-pc ∷ A r 2 ∷ A r 3 ∷ A r 4 ∷ A r 5 ∷ A r 6 ∷ A r 7 ∷ D r 0 ∷ D r 1 ∷ D r 2 ∷ D r 3 ∷ D r 4 ∷ D r 5 ∷ D r 6 ∷ D r 7 ∷ []
+
+-- the sixteen words of a half, as a save finds them
+abbrev pub contextOf : Half → ℕ → Registers → List ℕ
+contextOf Upper saved-pc r = upperOf r
+contextOf Lower saved-pc r = lowerOf saved-pc r

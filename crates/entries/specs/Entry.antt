@@ -14,8 +14,9 @@ use Rattle.events.specs.declared.event.Event.{Event}
 use Rattle.events.specs.declared.event.Event.the-variants as event
 use Rattle.events.specs.declared.event.Ending.{Ending}
 use Rattle.events.specs.declared.event.Ending.the-variants.{Made, Stopped}
-use Rattle.contexts.specs.Context.{upperOf}
+use Rattle.contexts.specs.Context.{upperOf, contextOf}
 use Rattle.contexts.specs.Save.{roomOf, takeOf, saveOf}
+use Rattle.contexts.specs.declared.context.Half.{Half}
 use Rattle.contexts.specs.declared.context.Half.the-variants.{Upper}
 use Rattle.contexts.specs.declared.save.Room.{Room}
 use Rattle.contexts.specs.declared.save.Room.the-variants as room
@@ -70,15 +71,20 @@ fcdBy r m (room.At at) =
 unfoldable pub fcdOf : Registers → Memory → MadeOf
 fcdOf r m = fcdBy r m (roomOf m (fcx r))
 
--- after the save of an entry: `then` are the registers from those with the heads set
+-- after a save: `then` are the registers from those with the heads set; an FCD entry follows where the area taken is LCX's
 abbrev pub entering : Event → (Registers → Registers) → Registers → Saved → List ℕ → Memory → MadeOf
 entering e then r (saved.Stops s) core m = made (Stopped s) (withCores core r) m
 entering e then r saved.Done core m = made (Made e) (then (withCores core r)) m
 entering e then r saved.Depleted core m = fcdOf (then (withCores core r)) m
 
--- an upper save, then the registers
+-- a save of a half, with the saved PC of a lower one, then the registers, and the step's event
+abbrev pub savingOf : Event → Half → ℕ → (Registers → Registers) → Registers → Memory → MadeOf
+savingOf e half saved-pc then r m =
+    let v = saveOf half (contextOf half saved-pc r) (r .core) m in entering e then r (v .saved) (v .core) (v .memory)
+
+-- an entry: an upper save, then the registers
 abbrev pub entryOf : Event → (Registers → Registers) → Registers → Memory → MadeOf
-entryOf e then r m = let v = saveOf Upper (upperOf r) (r .core) m in entering e then r (v .saved) (v .core) (v .memory)
+entryOf e then r m = savingOf e Upper 0 then r m
 
 -- the event of an entry's cause, and the registers that it sets
 abbrev pub causeEvent : Cause → Event

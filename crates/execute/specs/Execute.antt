@@ -11,7 +11,7 @@ use Rattle.image.specs.declared.fetch.Instruction.{Instruction}
 use Rattle.events.specs.declared.event.Event.the-variants as event
 use Rattle.events.specs.declared.event.Ending.the-variants.{Made, Stopped}
 use Rattle.entries.specs.Entry.{MadeOf, made, fcdOf, trapOf}
-use Rattle.acts.specs.Acts.{Act, Ends, Did, done, performOf}
+use Rattle.acts.specs.Acts.{Act, Ends, Sets}
 use Rattle.acts.specs.declared.How.{How}
 use Rattle.acts.specs.declared.How.the-variants as how
 use Rattle.moves.specs.Moves.{integerOf, moveOf}
@@ -20,10 +20,11 @@ use Rattle.system.specs.Instructions.{systemOf}
 use Rattle.accesses.specs.Load.{loadOf}
 use Rattle.accesses.specs.Store.{storeOf}
 use Rattle.calls.specs.Instructions.{contextOp}
+use Rattle.execute.specs.Decision.{actDecides, performedOf}
 
 abbrev pub actBy : Operation → Instruction → Registers → List Range → Memory → Act
-actBy Nop i r rs m = Ends (done (withPc (i .next) r))
-actBy (Integer op) i r rs m = Ends (done (integerOf op i r))
+actBy Nop i r rs m = Ends (Sets (withPc (i .next) r))
+actBy (Integer op) i r rs m = Ends (Sets (integerOf op i r))
 actBy (Move op) i r rs m = Ends (moveOf op i r)
 actBy (Load op) i r rs m = Ends (loadOf op i r rs m)
 actBy (Store op) i r rs m = storeOf op i r rs m
@@ -35,7 +36,11 @@ actBy (System op) i r rs m = Ends (systemOf op i r)
 unfoldable pub actOf : Instruction → Registers → List Range → Memory → Act
 actOf i r rs m = actBy (i .op) i r rs m
 
--- the trapping instruction is the return address, but the next one for SYSCALL, TRAPV, TRAPSV
+-- the instruction is decided and performed, with the entry of its trap
+unfoldable pub executeOf : Instruction → Registers → List Range → Memory → MadeOf
+executeOf i r rs m = performedOf (actDecides (i .next) r (actOf i r rs m)) r m
+
+-- the entry that follows an act, by how it ended: performing the act and then this is executing the instruction (proofs/Arms.antt: act-is)
 unfoldable pub finishOf : ℕ → How → Registers → Memory → MadeOf
 finishOf next how.Done r m = made (Made event.Instruction) r m
 finishOf next how.Switched r m = made (Made event.Instruction) r m
@@ -43,10 +48,3 @@ finishOf next how.Depleted r m = fcdOf r m
 finishOf next (how.Trap t) r m = trapOf t (pc r) r m
 finishOf next (how.TrapAfter t) r m = trapOf t next r m
 finishOf next (how.Stopped s) r m = made (Stopped s) r m
-
-abbrev pub finishDid : ℕ → Did → MadeOf
-finishDid next v = finishOf next (v .how) (v .registers) (v .memory)
-
--- the act is performed, and the entry follows
-unfoldable pub executeOf : Instruction → Registers → List Range → Memory → MadeOf
-executeOf i r rs m = finishDid (i .next) (performOf (actOf i r rs m) r m)

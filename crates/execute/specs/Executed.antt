@@ -3,8 +3,8 @@ use mathlib.Core.Bool.{Bool, true, false}
 use Rattle.registers.specs.declared.Registers.{Registers}
 use Rattle.events.specs.declared.event.Event.the-variants as event
 use Rattle.events.specs.declared.event.Ending.{Ending}
-use Rattle.events.specs.declared.event.Ending.the-variants.{Made}
-use Rattle.acts.specs.Steady as acts
+use Rattle.events.specs.declared.event.Ending.the-variants.{Made, Stopped}
+use Rattle.acts.specs.Acts.{controlOf, isSame}
 use Rattle.acts.specs.declared.How.{How}
 use Rattle.acts.specs.declared.How.the-variants as how
 use Rattle.execute.specs.declared.Executed.{Executed}
@@ -27,7 +27,9 @@ isDone (how.Trap t) = false
 isDone (how.TrapAfter t) = false
 isDone (how.Stopped s) = false
 
--- the registers before and after
-abbrev pub Kept : Executed → Registers → Registers → Type 0
-Kept Steady r q = acts.Steady r q
-Kept (Ended e) r q = Unit {0}
+-- a step that ended so, with the registers before and after it, is steady where there was no entry, and ICR, SYSCON and PSW.PRS are as they were
+abbrev pub staysSteady : Ending → Registers → Registers → Bool
+staysSteady (Made event.Instruction) r q = isSame (controlOf (r .core)) (controlOf (q .core))
+staysSteady (Made (event.Interrupt source)) r q = false
+staysSteady (Made (event.Trap t)) r q = false
+staysSteady (Stopped s) r q = false

@@ -1,3 +1,4 @@
 -- Instructions.
+pub mod Decision
 pub mod Execute
 pub mod Executed

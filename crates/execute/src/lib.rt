@@ -23,9 +23,8 @@ ghost use Rattle.protection.specs.Range.{rangesIn};
 ghost use Rattle.image.specs.Fetch.{FieldsHold};
 ghost use Rattle.entries.specs.Entry.{made};
 ghost use Rattle.acts.specs.Acts.{did, performOf};
-ghost use Rattle.acts.specs.Steady.{plainly, Keeps};
 ghost use Rattle.execute.specs.Execute.{actOf, finishOf, executeOf};
-ghost use Rattle.execute.specs.Executed.{endingOf, isSteady, isDone, Kept};
+ghost use Rattle.execute.specs.Executed.{endingOf, isSteady, isDone, staysSteady};
 
 // An instruction that is done and leaves ICR, SYSCON and PSW.PRS as they are, or the ending of any other.
 pub enum Executed {
@@ -65,8 +64,7 @@ fn perform(
     i: Instruction,
 ) -> How
     requires { ⌜ FieldsHold i ⌝ }
-    ensures { λ r. ⌜ did (plainly r) (registers (now (d .exit)) (now (a .exit)) (now (core .exit))) (lent base (now (window .exit)) base2 (now (window2 .exit))) ≡ performOf (actOf i (registers (now (d .entry)) (now (a .entry)) (now (core .entry))) (rangesIn (now (ranges .entry))) (lent base (now (window .entry)) base2 (now (window2 .entry)))) (registers (now (d .entry)) (now (a .entry)) (now (core .entry))) (lent base (now (window .entry)) base2 (now (window2 .entry))) ⌝ }
-    ensures { λ r. ⌜ Keeps r (registers (now (d .entry)) (now (a .entry)) (now (core .entry))) (registers (now (d .exit)) (now (a .exit)) (now (core .exit))) ⌝ }
+    ensures { λ r. ⌜ did r (registers (now (d .exit)) (now (a .exit)) (now (core .exit))) (lent base (now (window .exit)) base2 (now (window2 .exit))) ≡ performOf (actOf i (registers (now (d .entry)) (now (a .entry)) (now (core .entry))) (rangesIn (now (ranges .entry))) (lent base (now (window .entry)) base2 (now (window2 .entry)))) (registers (now (d .entry)) (now (a .entry)) (now (core .entry))) (lent base (now (window .entry)) base2 (now (window2 .entry))) ⌝ }
 {
     let op = i.op;
     match op {
@@ -110,7 +108,7 @@ fn finish(
     how: How,
     next: u32,
 ) -> Ending
-    ensures { λ r. ⌜ made r (registers (now (d .exit)) (now (a .exit)) (now (core .exit))) (lent base (now (window .exit)) base2 (now (window2 .exit))) ≡ finishOf next (plainly how) (registers (now (d .entry)) (now (a .entry)) (now (core .entry))) (lent base (now (window .entry)) base2 (now (window2 .entry))) ⌝ }
+    ensures { λ r. ⌜ made r (registers (now (d .exit)) (now (a .exit)) (now (core .exit))) (lent base (now (window .exit)) base2 (now (window2 .exit))) ≡ finishOf next how (registers (now (d .entry)) (now (a .entry)) (now (core .entry))) (lent base (now (window .entry)) base2 (now (window2 .entry))) ⌝ }
 {
     match how {
         How::Done => Ending::Made(Event::Instruction),
@@ -153,7 +151,7 @@ pub fn execute_instruction(
 ) -> Executed
     requires { ⌜ FieldsHold i ⌝ }
     ensures { λ r. ⌜ made (endingOf r) (registers (now (d .exit)) (now (a .exit)) (now (core .exit))) (lent base (now (window .exit)) base2 (now (window2 .exit))) ≡ executeOf i (registers (now (d .entry)) (now (a .entry)) (now (core .entry))) (rangesIn (now (ranges .entry))) (lent base (now (window .entry)) base2 (now (window2 .entry))) ⌝ }
-    ensures { λ r. ⌜ Kept r (registers (now (d .entry)) (now (a .entry)) (now (core .entry))) (registers (now (d .exit)) (now (a .exit)) (now (core .exit))) ⌝ }
+    ensures { λ r. ⌜ isSteady r ≡ staysSteady (endingOf r) (registers (now (d .entry)) (now (a .entry)) (now (core .entry))) (registers (now (d .exit)) (now (a .exit)) (now (core .exit))) ⌝ }
 {
     let how = perform(base, window, base2, window2, d, a, core, ranges, i);
     if is_done(how) {

@@ -8,8 +8,7 @@ use Rattle.image.specs.declared.fetch.Instruction.{Instruction}
 use Rattle.registers.specs.Registers.{D, A, pc, psw, withA, withPc, plusOf, minusOf, even, guards}
 use Rattle.registers.specs.declared.Registers.{Registers}
 use Rattle.events.specs.Traps.{GRWP}
-use Rattle.acts.specs.Acts.{Ended, ended, done}
-use Rattle.acts.specs.declared.How.the-variants as how
+use Rattle.acts.specs.Acts.{Effect, Sets, Traps}
 
 -- jumps go to PC plus immediate, modulo 2^32
 unfoldable pub targetOf : ℕ → ℕ → ℕ
@@ -32,21 +31,21 @@ holds JgeU x y = not (lessUnsigned x y)
 holds Loop x y = true
 
 -- JEQ to JGE.U compare D[a] with D[b]
-unfoldable pub compareOf : Jump → Instruction → Registers → Ended
-compareOf op i r = done (withPc (branchOf (holds op (D r (i .a)) (D r (i .b))) (pc r) (i .imm) (i .next)) r)
+unfoldable pub compareOf : Jump → Instruction → Registers → Effect
+compareOf op i r = Sets (withPc (branchOf (holds op (D r (i .a)) (D r (i .b))) (pc r) (i .imm) (i .next)) r)
 
 -- LOOP jumps if A[a] isn't 0, then subtracts 1 modulo 2^32; 1/7 where A[a] may not be written
-unfoldable pub loopOf : Instruction → Registers → Ended
+unfoldable pub loopOf : Instruction → Registers → Effect
 loopOf i r =
-    cond (guards (psw r) (i .a)) (ended (how.Trap GRWP) r)
-    (done (withPc (branchOf (not (equals (A r (i .a)) 0)) (pc r) (i .imm) (i .next)) (withA (i .a) (minusOf (A r (i .a)) 1) r)))
+    cond (guards (psw r) (i .a)) (Traps GRWP)
+    (Sets (withPc (branchOf (not (equals (A r (i .a)) 0)) (pc r) (i .imm) (i .next)) (withA (i .a) (minusOf (A r (i .a)) 1) r)))
 
-unfoldable pub jumpOf : Jump → Instruction → Registers → Ended
-jumpOf J i r = done (withPc (targetOf (pc r) (i .imm)) r)
+unfoldable pub jumpOf : Jump → Instruction → Registers → Effect
+jumpOf J i r = Sets (withPc (targetOf (pc r) (i .imm)) r)
 -- A11 = PC + 4
-jumpOf Jl i r = done (withPc (targetOf (pc r) (i .imm)) (withA 11 (i .next) r))
+jumpOf Jl i r = Sets (withPc (targetOf (pc r) (i .imm)) (withA 11 (i .next) r))
 -- to A[a] as before the step
-jumpOf Ji i r = done (withPc (even (A r (i .a))) r)
+jumpOf Ji i r = Sets (withPc (even (A r (i .a))) r)
 jumpOf Jeq i r = compareOf Jeq i r
 jumpOf Jne i r = compareOf Jne i r
 jumpOf Jlt i r = compareOf Jlt i r

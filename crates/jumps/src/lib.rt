@@ -19,7 +19,7 @@ ghost use Prim.Native.Nat.{_<_};
 ghost use Rattle.registers.specs.Registers.{registers};
 ghost use Rattle.operations.specs.Operations.{jumpCompares};
 ghost use Rattle.image.specs.Fetch.{FieldsHold};
-ghost use Rattle.acts.specs.Acts.{ended};
+ghost use Rattle.acts.specs.Acts.{ended, endedOf};
 ghost use Rattle.jumps.specs.Jumps.{targetOf, branchOf, holds, compareOf, loopOf, jumpOf};
 
 // The jump to PC plus the immediate.
@@ -65,7 +65,7 @@ fn compare_and_jump(
     i: Instruction,
 ) -> How
     requires { ⌜ (i .a < 16) × (i .b < 16) ⌝ }
-    ensures { λ r. ⌜ ended r (registers (now (d .exit)) (now (a .exit)) (now (core .exit))) ≡ compareOf op i (registers (now (d .entry)) (now (a .entry)) (now (core .entry))) ⌝ }
+    ensures { λ r. ⌜ ended r (registers (now (d .exit)) (now (a .exit)) (now (core .exit))) ≡ endedOf (compareOf op i (registers (now (d .entry)) (now (a .entry)) (now (core .entry)))) (registers (now (d .entry)) (now (a .entry)) (now (core .entry))) ⌝ }
 {
     let x = i.a;
     let y = i.b;
@@ -76,7 +76,7 @@ fn compare_and_jump(
 
 fn execute_loop(d: &mut [u32; 16], a: &mut [u32; 16], core: &mut [u32; 10], i: Instruction) -> How
     requires { ⌜ FieldsHold i ⌝ }
-    ensures { λ r. ⌜ ended r (registers (now (d .exit)) (now (a .exit)) (now (core .exit))) ≡ loopOf i (registers (now (d .entry)) (now (a .entry)) (now (core .entry))) ⌝ }
+    ensures { λ r. ⌜ ended r (registers (now (d .exit)) (now (a .exit)) (now (core .exit))) ≡ endedOf (loopOf i (registers (now (d .entry)) (now (a .entry)) (now (core .entry)))) (registers (now (d .entry)) (now (a .entry)) (now (core .entry))) ⌝ }
 {
     let x = i.a;
     if guarded(core[PSW], x) {
@@ -97,7 +97,7 @@ pub fn execute_jump(
     i: Instruction,
 ) -> How
     requires { ⌜ FieldsHold i × (jumpCompares op ≡ true → i .b < 16) ⌝ }
-    ensures { λ r. ⌜ ended r (registers (now (d .exit)) (now (a .exit)) (now (core .exit))) ≡ jumpOf op i (registers (now (d .entry)) (now (a .entry)) (now (core .entry))) ⌝ }
+    ensures { λ r. ⌜ ended r (registers (now (d .exit)) (now (a .exit)) (now (core .exit))) ≡ endedOf (jumpOf op i (registers (now (d .entry)) (now (a .entry)) (now (core .entry)))) (registers (now (d .entry)) (now (a .entry)) (now (core .entry))) ⌝ }
 {
     match op {
         Jump::J => {

@@ -9,8 +9,7 @@ use Rattle.image.specs.declared.fetch.Instruction.{Instruction}
 use Rattle.registers.specs.Registers.{D, A, psw, withD, withA, withPc, withPsw, secondOf, plusOf, minusOf, guards}
 use Rattle.registers.specs.declared.Registers.{Registers}
 use Rattle.events.specs.Traps.{GRWP}
-use Rattle.acts.specs.Acts.{Ended, ended, done}
-use Rattle.acts.specs.declared.How.the-variants as how
+use Rattle.acts.specs.Acts.{Effect, Sets, Traps}
 
 -- the result of D[a] and the second operand goes to D[c], with PSW
 unfoldable pub integerOf : Integer → Instruction → Registers → Registers
@@ -19,14 +18,14 @@ integerOf op i r =
     withPc (i .next) (withPsw (v .psw) (withD (i .c) (v .word) r))
 
 -- a value goes to A[c]: 1/7 where that is A0, A1, A8 or A9 with GW 0
-unfoldable pub addressWrite : ℕ → ℕ → ℕ → Registers → Ended
-addressWrite c value next r = cond (guards (psw r) c) (ended (how.Trap GRWP) r) (done (withPc next (withA c value r)))
+unfoldable pub addressWrite : ℕ → ℕ → ℕ → Registers → Effect
+addressWrite c value next r = cond (guards (psw r) c) (Traps GRWP) (Sets (withPc next (withA c value r)))
 
-unfoldable pub moveOf : Move → Instruction → Registers → Ended
+unfoldable pub moveOf : Move → Instruction → Registers → Effect
 -- A[c] = the second operand, of D
 moveOf MovA i r = addressWrite (i .c) (secondOf (r .d) (i .b) (i .imm)) (i .next) r
 -- D[c] = A[a]
-moveOf MovD i r = done (withPc (i .next) (withD (i .c) (A r (i .a)) r))
+moveOf MovD i r = Sets (withPc (i .next) (withD (i .c) (A r (i .a)) r))
 -- A[c] = A[a]
 moveOf MovAa i r = addressWrite (i .c) (A r (i .a)) (i .next) r
 -- A[c] = A[a] + the second operand, of A

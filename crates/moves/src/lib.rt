@@ -16,7 +16,7 @@ ghost use mathlib.Core.Path.{_≡_};
 ghost use Prim.Native.Nat.{_<_};
 ghost use Rattle.registers.specs.Registers.{registers};
 ghost use Rattle.image.specs.Fetch.{FieldsHold};
-ghost use Rattle.acts.specs.Acts.{ended};
+ghost use Rattle.acts.specs.Acts.{ended, endedOf};
 ghost use Rattle.moves.specs.Moves.{integerOf, addressWrite, moveOf};
 
 // An integer operation: D[c] and PSW.
@@ -48,7 +48,7 @@ fn write_address(
     next: u32,
 ) -> How
     requires { ⌜ c < 16 ⌝ }
-    ensures { λ r. ⌜ ended r (registers (now (d .exit)) (now (a .exit)) (now (core .exit))) ≡ addressWrite c value next (registers (now (d .entry)) (now (a .entry)) (now (core .entry))) ⌝ }
+    ensures { λ r. ⌜ ended r (registers (now (d .exit)) (now (a .exit)) (now (core .exit))) ≡ endedOf (addressWrite c value next (registers (now (d .entry)) (now (a .entry)) (now (core .entry)))) (registers (now (d .entry)) (now (a .entry)) (now (core .entry))) ⌝ }
 {
     if guarded(core[PSW], c) {
         return How::Trap(GRWP);
@@ -67,7 +67,7 @@ pub fn execute_move(
     i: Instruction,
 ) -> How
     requires { ⌜ FieldsHold i ⌝ }
-    ensures { λ r. ⌜ ended r (registers (now (d .exit)) (now (a .exit)) (now (core .exit))) ≡ moveOf op i (registers (now (d .entry)) (now (a .entry)) (now (core .entry))) ⌝ }
+    ensures { λ r. ⌜ ended r (registers (now (d .exit)) (now (a .exit)) (now (core .exit))) ≡ endedOf (moveOf op i (registers (now (d .entry)) (now (a .entry)) (now (core .entry)))) (registers (now (d .entry)) (now (a .entry)) (now (core .entry))) ⌝ }
 {
     let c = i.c;
     let x = i.a;

@@ -3,6 +3,8 @@
 use crate::core_registers::read_core;
 use crate::core_registers::write_core;
 use acts::How;
+use acts::control_of;
+use acts::settled;
 use events::trap::OVF;
 use events::trap::PRIV;
 use events::trap::SOVF;
@@ -15,8 +17,7 @@ use registers::PSW;
 ghost use mathlib.Core.Path.{_≡_};
 ghost use Rattle.registers.specs.Registers.{registers};
 ghost use Rattle.image.specs.Fetch.{FieldsHold};
-ghost use Rattle.acts.specs.Acts.{ended};
-ghost use Rattle.acts.specs.Steady.{plainly, Keeps};
+ghost use Rattle.acts.specs.Acts.{ended, endedOf};
 ghost use Rattle.system.specs.Instructions.{enableOf, systemOf};
 
 // ENABLE and DISABLE: IE.
@@ -27,15 +28,15 @@ fn set_enable(
     ie: bool,
     next: u32,
 ) -> How
-    ensures { λ r. ⌜ ended (plainly r) (registers (now (d .exit)) (now (a .exit)) (now (core .exit))) ≡ enableOf ie next (registers (now (d .entry)) (now (a .entry)) (now (core .entry))) ⌝ }
-    ensures { λ r. ⌜ Keeps r (registers (now (d .entry)) (now (a .entry)) (now (core .entry))) (registers (now (d .exit)) (now (a .exit)) (now (core .exit))) ⌝ }
+    ensures { λ r. ⌜ ended r (registers (now (d .exit)) (now (a .exit)) (now (core .exit))) ≡ endedOf (enableOf ie next (registers (now (d .entry)) (now (a .entry)) (now (core .entry)))) (registers (now (d .entry)) (now (a .entry)) (now (core .entry))) ⌝ }
 {
     if psw::user0(core[PSW]) {
         return How::Trap(PRIV);
     }
+    let before = control_of(core);
     core[ICR] = fields::icr::written(core[ICR], ie, fields::icr::priority(core[ICR]));
     core[PC] = next;
-    How::Switched
+    settled(before, core)
 }
 
 pub fn execute_system(
@@ -46,8 +47,7 @@ pub fn execute_system(
     i: Instruction,
 ) -> How
     requires { ⌜ FieldsHold i ⌝ }
-    ensures { λ r. ⌜ ended (plainly r) (registers (now (d .exit)) (now (a .exit)) (now (core .exit))) ≡ systemOf op i (registers (now (d .entry)) (now (a .entry)) (now (core .entry))) ⌝ }
-    ensures { λ r. ⌜ Keeps r (registers (now (d .entry)) (now (a .entry)) (now (core .entry))) (registers (now (d .exit)) (now (a .exit)) (now (core .exit))) ⌝ }
+    ensures { λ r. ⌜ ended r (registers (now (d .exit)) (now (a .exit)) (now (core .exit))) ≡ endedOf (systemOf op i (registers (now (d .entry)) (now (a .entry)) (now (core .entry)))) (registers (now (d .entry)) (now (a .entry)) (now (core .entry))) ⌝ }
 {
     match op {
         System::Enable => set_enable(d, a, core, true, i.next),
@@ -63,9 +63,10 @@ pub fn execute_system(
                 return How::Trap(PRIV);
             }
             let x = i.a;
+            let before = control_of(core);
             write_core(core, i.imm, d[x]);
             core[PC] = i.next;
-            How::Switched
+            settled(before, core)
         }
         System::Trapv => {
             if psw::overflow(core[PSW]) {

@@ -1,18 +1,22 @@
 -- `execute::execute_instruction` meets its contract. Assumes nothing.
 use borrow.Author.Needs.{needs}
 use mathlib.Core.Path.{sym, _∙_}
-use Rattle.execute.specs.Execute.{finishOf, executeOf}
-use Rattle.execute.proofs.Arms.{done-is}
+use Rattle.execute.specs.Execute.{finishOf}
+use Rattle.execute.proofs.Arms.{done-is, executed-as, told, entered}
 use Rattle.execute.proofs.execute_instruction.Statement.{statement}
 use Rattle.execute.proofs.execute_instruction.Tie as tie
 
 returns : tie.Need-returns
-unfolding executeOf finishOf
-returns c = let e = done-is (c .before .before .before .before .before .before .perform .result) (sym (c .before .is-done .ensures) ∙ c .if1 .taken) in (rw (← rw e at (c .before .before .before .before .before .before .perform .ensures .0)), rw e at (c .before .before .before .before .before .before .perform .ensures .1))
+unfolding finishOf
+returns c =
+    let is = c .before .before .before .before .before .before .perform .ensures in
+    let e = done-is (c .before .before .before .before .before .before .perform .result) (sym (c .before .is-done .ensures) ∙ c .if1 .taken) in
+    (rw e at (executed-as _ _ _ _ is), sym (rw e at (told _ _ _ _ is)))
 
 returns-2 : tie.Need-returns-2
-unfolding executeOf
-returns-2 c = (rw (← c .before .before .before .before .before .before .before .before .before .before .before .before .before .before .before .before .perform .ensures .0) (c .before .before .before .before .finish .ensures), tt)
+returns-2 c =
+    let is = c .before .before .before .before .before .before .before .before .before .before .before .before .before .before .before .before .perform .ensures in
+    (c .before .before .before .before .finish .ensures ∙ executed-as _ _ _ _ is, entered _ _ _ _ is (c .before .before .before .before .finish .ensures) (sym (c .before .before .before .before .before .before .before .before .before .before .before .is-done .ensures) ∙ c .before .before .before .before .before .before .before .before .before .before .if1 .left))
 
 pub execute-instruction-spec : {M : Type 1} → statement M
 execute-instruction-spec =

@@ -1,5 +1,6 @@
 -- `jumps::execute_jump` meets its contract. Assumes nothing.
 use borrow.Author.Needs.{needs}
+use Rattle.acts.proofs.Steadiness.{steady-next, done-ended}
 use Rattle.jumps.specs.Jumps.{jumpOf}
 use Rattle.jumps.proofs.execute_jump.Statement.{statement}
 use Rattle.jumps.proofs.execute_jump.Tie as tie
@@ -24,15 +25,15 @@ compare-and-jump-requires-6 c κs = let h = c .before .before .before .before .b
 
 returns : tie.Need-returns
 unfolding jumpOf
-returns c = rw (c .before .before .enum-told .given .1, c .destination .ensures)
+returns c = rw (c .before .before .enum-told .given .1, c .destination .ensures) (done-ended (steady-next _ _ _ _))
 
 returns-2 : tie.Need-returns-2
 unfolding jumpOf
-returns-2 c = rw (c .before .before .enum-told2 .given .1, c .destination2 .ensures)
+returns-2 c = rw (c .before .before .enum-told2 .given .1, c .destination2 .ensures) (done-ended (steady-next _ _ _ _))
 
 returns-3 : tie.Need-returns-3
 unfolding jumpOf
-returns-3 c = rw (c .before .before .enum-told3 .given .1, c .new-pc .ensures)
+returns-3 c = rw (c .before .before .enum-told3 .given .1, c .new-pc .ensures) (done-ended (steady-next _ _ _ _))
 
 returns-4 : tie.Need-returns-4
 unfolding jumpOf

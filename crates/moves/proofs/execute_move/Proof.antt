@@ -1,5 +1,6 @@
 -- `moves::execute_move` meets its contract. Assumes nothing.
 use borrow.Author.Needs.{needs}
+use Rattle.acts.proofs.Steadiness.{steady-next, done-ended}
 use Rattle.moves.specs.Moves.{moveOf}
 use Rattle.moves.proofs.execute_move.Statement.{statement}
 use Rattle.moves.proofs.execute_move.Tie as tie
@@ -10,7 +11,7 @@ returns c = rw (c .before .before .before .before .before .before .enum-told .gi
 
 returns-2 : tie.Need-returns-2
 unfolding moveOf
-returns-2 c = rw (c .before .enum-told2 .given .1)
+returns-2 c = rw (c .before .enum-told2 .given .1) (done-ended (steady-next _ _ _ _))
 
 returns-3 : tie.Need-returns-3
 unfolding moveOf

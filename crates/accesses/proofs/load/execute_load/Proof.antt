@@ -5,6 +5,7 @@ use mathlib.Core.Path.{sym, ap, _∙_}
 use mathlib.Core.List.{_++_}
 use lib.ListN.{getD}
 use Rattle.memory.specs.Word.{halfAt, wordAt}
+use Rattle.acts.proofs.Steadiness.{steady-next, done-ended}
 use Rattle.accesses.specs.Load.{readOf, loadOf}
 use Rattle.accesses.proofs.Reaches.{reach-spot}
 use Rattle.accesses.proofs.load.execute_load.Statement.{statement}
@@ -80,7 +81,7 @@ returns-11 c = rw (c .before .before .before .before .before .before .before .en
 
 returns-12 : tie.Need-returns-12
 unfolding loadOf readOf
-returns-12 c = rw (c .before .before .before .before .before .before .before .before .enum-told11 .given .1, ← c .before .before .before .before .before .before .before .before .before .before .plus .ensures, ← c .before .before .before .before .before .before .guarded .ensures, ← c .before .before .before .before .reach-data6 .ensures, c .before .before .enum-told12 .given .1, ← (c .load-word2 .ensures ∙ ap (wordAt (c .before .before .before .before .before .before .before .before .before .before .before .before .before .before .args .window .now ++ c .before .before .before .before .before .before .before .before .before .before .before .before .before .before .args .window2 .now)) (reach-spot (c .before .before .before .before .before .before .before .before .before .before .before .before .before .before .args .window .now) (c .before .before .before .before .before .before .before .before .before .before .before .before .before .before .args .window2 .now) _ _ _ _ _ _ _ _ _ _ _ (c .before .spot-at6 .ensures) (sym (c .before .before .before .before .reach-data6 .ensures) ∙ c .before .before .enum-told12 .given .1) .1)))
+returns-12 c = rw (c .before .before .before .before .before .before .before .before .enum-told11 .given .1, ← c .before .before .before .before .before .before .before .before .before .before .plus .ensures, ← c .before .before .before .before .before .before .guarded .ensures, ← c .before .before .before .before .reach-data6 .ensures, c .before .before .enum-told12 .given .1, ← (c .load-word2 .ensures ∙ ap (wordAt (c .before .before .before .before .before .before .before .before .before .before .before .before .before .before .args .window .now ++ c .before .before .before .before .before .before .before .before .before .before .before .before .before .before .args .window2 .now)) (reach-spot (c .before .before .before .before .before .before .before .before .before .before .before .before .before .before .args .window .now) (c .before .before .before .before .before .before .before .before .before .before .before .before .before .before .args .window2 .now) _ _ _ _ _ _ _ _ _ _ _ (c .before .spot-at6 .ensures) (sym (c .before .before .before .before .reach-data6 .ensures) ∙ c .before .before .enum-told12 .given .1) .1))) (done-ended (steady-next _ _ _ _))
 
 pub execute-load-spec : {M : Type 1} → statement M
 execute-load-spec =

@@ -1,32 +1,31 @@
 -- `calls::instructions::execute_context` meets its contract. Assumes nothing.
 use borrow.Author.Needs.{needs}
-use mathlib.Core.Path.{refl}
 use Rattle.calls.specs.Instructions.{contextOp}
 use Rattle.calls.proofs.Told.{call-told, lower-told}
 use Rattle.calls.proofs.instructions.execute_context.Statement.{statement}
 use Rattle.calls.proofs.instructions.execute_context.Tie as tie
 
 returns : tie.Need-returns
-returns c = (rw (call-told _ _ _ (c .before .before .before .before .before .before .before .before .before .before .before .before .before .before .before .match .keys1), c .passed-on .ensures) (rw (c .before .before .before .before .before .before .before .before .before .before .before .target .ensures) at (c .before .before .before .before .before .call .ensures .0)), rw (c .passed-on .ensures) (c .before .before .before .before .before .call .ensures .1))
+returns c = rw (call-told _ _ _ (c .before .before .before .before .before .before .before .before .before .before .before .before .before .before .before .match .keys1), c .passed-on .ensures) (rw (c .before .before .before .before .before .before .before .before .before .before .before .target .ensures) at (c .before .before .before .before .before .call .ensures))
 
 returns-2 : tie.Need-returns-2
 unfolding contextOp
-returns-2 c = (rw (c .before .before .before .before .before .before .before .before .before .before .enum-told .given .1) (c .before .before .before .before .ret .ensures .0), c .before .before .before .before .ret .ensures .1)
+returns-2 c = rw (c .before .before .before .before .before .before .before .before .before .before .enum-told .given .1) (c .before .before .before .before .ret .ensures)
 
 returns-3 : tie.Need-returns-3
 unfolding contextOp
-returns-3 c = (rw (c .before .before .before .before .before .before .before .before .before .before .enum-told2 .given .1) (c .before .before .before .before .rfe .ensures .0), c .before .before .before .before .rfe .ensures .1)
+returns-3 c = rw (c .before .before .before .before .before .before .before .before .before .before .enum-told2 .given .1) (c .before .before .before .before .rfe .ensures)
 
 returns-4 : tie.Need-returns-4
-returns-4 c = (rw (lower-told _ _ _ (c .before .before .before .before .before .before .before .before .before .before .before .match .keys4), ← c .before .before .before .before .before .is-bisr .ensures) (c .before .before .before .before .save-lower-half .ensures .0), c .before .before .before .before .save-lower-half .ensures .1)
+returns-4 c = rw (lower-told _ _ _ (c .before .before .before .before .before .before .before .before .before .before .before .match .keys4), ← c .before .before .before .before .before .is-bisr .ensures) (c .before .before .before .before .save-lower-half .ensures)
 
 returns-5 : tie.Need-returns-5
 unfolding contextOp
-returns-5 c = (rw (c .before .before .before .before .before .before .before .before .before .before .enum-told3 .given .1) (c .before .before .before .before .rslcx .ensures .0), c .before .before .before .before .rslcx .ensures .1)
+returns-5 c = rw (c .before .before .before .before .before .before .before .before .before .before .enum-told3 .given .1) (c .before .before .before .before .rslcx .ensures)
 
 returns-6 : tie.Need-returns-6
 unfolding contextOp
-returns-6 c = (rw (c .before .enum-told4 .given .1, c .system-call .ensures) refl, tt)
+returns-6 c = rw (c .before .enum-told4 .given .1, c .system-call .ensures)
 
 pub execute-context-spec : {M : Type 1} → statement M
 execute-context-spec =
