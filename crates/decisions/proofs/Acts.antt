@@ -35,7 +35,7 @@ use Rattle.accesses.specs.declared.reach.Reach.{Reach}
 use Rattle.accesses.specs.declared.reach.Reach.the-variants as reach
 use Rattle.accesses.proofs.Reaches.{reach-inside}
 use Rattle.calls.specs.Saves.{callOf, svlcxOf, bisrOf}
-use Rattle.calls.specs.Returns.{isOf, previousOf, returning, retOf, rfeOf, rslcxOf}
+use Rattle.calls.specs.Returns.{isOf, previousOf, ifThere, retOf, rfeOf, rslcxOf}
 use Rattle.calls.specs.Instructions.{contextOp}
 use Rattle.calls.specs.declared.returns.Previous.{Previous}
 use Rattle.calls.specs.declared.returns.Previous.the-variants.{There, Traps}
@@ -50,7 +50,7 @@ use Rattle.decisions.proofs.Systems.{system-sound}
 use Rattle.decisions.proofs.Thens.{Then, ReturnThen, called-then, pc-then, bisr-then, return-pc, return-rfe}
 
 -- an area is there to return to, of that half
-pub record Leads (half : Half) (word : ℕ) : Type 0 where
+pub record HasPrevious (half : Half) (word : ℕ) : Type 0 where
   pub linked : linkOf word .0 ≡ 0 → ⊥
   pub is-of : PCXI·UL word ≡ ulOf half
 
@@ -58,7 +58,7 @@ abbrev pub ActSound : Type 0 → Registers → Memory → Act → Type 0
 ActSound quiet r m (Ends e) = EndsSound quiet r e
 ActSound quiet r m (Write op at v q) = Sound quiet r q × Word v × (at + sizeOf op ≤ length (m .bytes))
 ActSound quiet r m (Save half saved-pc then) = Word saved-pc × Then then
-ActSound quiet r m (Return half then) = ReturnThen then × Leads half (pcxi r)
+ActSound quiet r m (Return half then) = ReturnThen then × HasPrevious half (pcxi r)
 
 module _ (quiet : Type 0) {r : Registers} (w : Valid r) (i : Instruction) (o : Decoded i) (m : Memory) where
   -- stores
@@ -69,7 +69,7 @@ module _ (quiet : Type 0) {r : Registers} (w : Valid r) (i : Instruction) (o : D
   value-word StA = w .a .each (i .c)
 
   reached-sound : (rs : List Range) (op : Store) (p : Reach) → reachOf (m .windows) (length (m .bytes)) (r .core) rs right.Write false (sizeOf op) (alignmentOf op) (addressIn i (r .a)) ≡ p → ReachBytes p → ActSound quiet r m (storeBy op i r p)
-  reached-sound rs op (reach.Traps t) e h = (refl, h)
+  reached-sound rs op (reach.Traps t) e h = h
   reached-sound rs op (reach.At at) e h = (onward quiet w {i = i} o (sound-start w), value-word op, reach-inside _ _ _ _ _ _ _ _ _ at e .inside)
 
   pub store-sound : (rs : List Range) (op : Store) → ActSound quiet r m (storeOf op i r rs m)
@@ -80,16 +80,16 @@ module _ (quiet : Type 0) {r : Registers} (w : Valid r) (i : Instruction) (o : D
   call-sound : (to : ℕ) → Word to → ActSound quiet r m (callOf to (i .next) r)
   unfolding callOf
   call-sound to h =
-      either-has (ActSound quiet r m) (overflowsUp (psw r)) (refl, small (omega arith) (omega arith)) (omega arith, called-then to (i .next) h (o .next))
+      either-has (ActSound quiet r m) (overflowsUp (psw r)) (small (omega arith) (omega arith)) (omega arith, called-then to (i .next) h (o .next))
 
   bisr-sound : ActSound quiet r m (bisrOf (i .imm) (i .next) r)
   unfolding bisrOf
   bisr-sound =
-      either-has (ActSound quiet r m) (isSupervisor (psw r)) (o .next, bisr-then (i .imm) (i .next) (o .next) (o .even)) (refl, small (omega arith) (omega arith))
+      either-has (ActSound quiet r m) (isSupervisor (psw r)) (o .next, bisr-then (i .imm) (i .next) (o .next) (o .even)) (small (omega arith) (omega arith))
 
   -- returns
   abbrev PreviousSays : Half → Previous → Type 0
-  PreviousSays half There = Leads half (pcxi r)
+  PreviousSays half There = HasPrevious half (pcxi r)
   PreviousSays half (Traps t) = TrapBytes t
 
   half-is : (half : Half) → isOf half (pcxi r) ≡ true → PCXI·UL (pcxi r) ≡ ulOf half
@@ -106,9 +106,9 @@ module _ (quiet : Type 0) {r : Registers} (w : Valid r) (i : Instruction) (o : D
       either-knows (PreviousSays half) (eqb (linkOf (pcxi r) .0) 0) (λ e. small (omega arith) (omega arith))
       (λ e. either-knows (PreviousSays half) (isOf half (pcxi r)) (λ f. record { linked = eqb-false (linkOf (pcxi r) .0) 0 e; is-of = half-is half f }) (λ f. small (omega arith) (omega arith)))
 
-  returning-sound : (half : Half) (act : Act) → (Leads half (pcxi r) → ActSound quiet r m act) → (p : Previous) → PreviousSays half p → ActSound quiet r m (returning r act p)
-  returning-sound half act k (Traps t) h = (refl, h)
-  returning-sound half act k There h = k h
+  there-sound : (half : Half) (act : Act) → (HasPrevious half (pcxi r) → ActSound quiet r m act) → (p : Previous) → PreviousSays half p → ActSound quiet r m (ifThere act p)
+  there-sound half act k (Traps t) h = h
+  there-sound half act k There h = k h
 
   to-word : Word (even (A r 11))
   to-word = even-word (A r 11) (w .a .each 11)
@@ -116,19 +116,19 @@ module _ (quiet : Type 0) {r : Registers} (w : Valid r) (i : Instruction) (o : D
   ret-sound : ActSound quiet r m (retOf r)
   unfolding retOf
   ret-sound =
-      either-has (ActSound quiet r m) (underflowsDown (psw r)) (refl, small (omega arith) (omega arith))
-      (returning-sound Upper _ (λ h. (return-pc (even (A r 11)) to-word (even-even (A r 11)), h)) (previousOf Upper (pcxi r)) (previous-says Upper))
+      either-has (ActSound quiet r m) (underflowsDown (psw r)) (small (omega arith) (omega arith))
+      (there-sound Upper _ (λ h. (return-pc (even (A r 11)) to-word (even-even (A r 11)), h)) (previousOf Upper (pcxi r)) (previous-says Upper))
 
   rfe-sound : ActSound quiet r m (rfeOf r)
   unfolding rfeOf
   rfe-sound =
-      returning-sound Upper _
-      (λ h. either-has (ActSound quiet r m) (nested (psw r)) (refl, small (omega arith) (omega arith)) (return-rfe r w, h))
+      there-sound Upper _
+      (λ h. either-has (ActSound quiet r m) (nested (psw r)) (small (omega arith) (omega arith)) (return-rfe r w, h))
       (previousOf Upper (pcxi r)) (previous-says Upper)
 
   rslcx-sound : ActSound quiet r m (rslcxOf (i .next) r)
   unfolding rslcxOf
-  rslcx-sound = returning-sound Lower _ (λ h. (return-pc (i .next) (o .next) (o .even), h)) (previousOf Lower (pcxi r)) (previous-says Lower)
+  rslcx-sound = there-sound Lower _ (λ h. (return-pc (i .next) (o .next) (o .even), h)) (previousOf Lower (pcxi r)) (previous-says Lower)
 
   pub context-sound : (op : Context) → ActSound quiet r m (contextOp op i r)
   unfolding contextOp svlcxOf
@@ -139,7 +139,7 @@ module _ (quiet : Type 0) {r : Registers} (w : Valid r) (i : Instruction) (o : D
   context-sound Svlcx = (o .next, pc-then (i .next) (o .next) (o .even))
   context-sound Rslcx = rslcx-sound
   context-sound Bisr = bisr-sound
-  context-sound Syscall = (refl, small (omega arith) (omega arith))
+  context-sound Syscall = small (omega arith) (omega arith)
 
 module _ {r : Registers} (w : Valid r) (i : Instruction) (o : Decoded i) (rs : List Range) (m : Memory) (b : Bytes (m .bytes)) where
   by-sound : (op : Operation) → ActSound (headsBy op i r ≡ false) r m (actBy op i r rs m)

@@ -75,7 +75,7 @@ module _ (quiet : Type 0) {r : Registers} (w : Valid r) where
     address-sound : (c value : ℕ) → Word value → EndsSound quiet r (addressWrite c value (i .next) r)
     unfolding addressWrite
     address-sound c value h =
-        either-has (EndsSound quiet r) (guards (psw r) c) (refl, small (omega arith) (omega arith)) (onward {i = i} o (sound-a (sound-start w) c value h))
+        either-has (EndsSound quiet r) (guards (psw r) c) (small (omega arith) (omega arith)) (onward {i = i} o (sound-a (sound-start w) c value h))
 
     pub move-sound : (op : Move) → EndsSound quiet r (moveOf op i r)
     unfolding moveOf
@@ -103,7 +103,7 @@ module _ (quiet : Type 0) {r : Registers} (w : Valid r) where
     loop-sound : EndsSound quiet r (loopOf i r)
     unfolding loopOf
     loop-sound =
-        either-has (EndsSound quiet r) (guards (psw r) (i .a)) (refl, small (omega arith) (omega arith))
+        either-has (EndsSound quiet r) (guards (psw r) (i .a)) (small (omega arith) (omega arith))
         (to (sound-a (sound-start w) (i .a) _ (minus-word (A r (i .a)) 1)) (branch-even (not (equals (A r (i .a)) 0))))
 
     pub jump-sound : (op : Jump) → EndsSound quiet r (jumpOf op i r)
@@ -171,7 +171,7 @@ module _ (quiet : Type 0) {r : Registers} (w : Valid r) (i : Instruction) (o : D
   put-sound LdA v h = sound-a (sound-start w) (i .c) v h
 
   reached-sound : (op : Load) (p : Reach) → ReachBytes p → EndsSound quiet r (loadBy op i r m p)
-  reached-sound op (Traps t) h = (refl, h)
+  reached-sound op (Traps t) h = h
   reached-sound op (At at) h = onward quiet w {i = i} o (put-sound op (readOf op (m .bytes) at) (read-word b op at))
 
   pub load-sound : (rs : List Range) (op : Load) → EndsSound quiet r (loadOf op i r rs m)

@@ -13,10 +13,10 @@ use Rattle.operations.specs.declared.Store.{Store}
 use Rattle.operations.specs.declared.Store.the-variants.{StB, StH, StW, StA}
 use Rattle.registers.specs.Registers.{D, A}
 use Rattle.registers.specs.declared.Registers.{Registers}
-use Rattle.contexts.specs.Context.{upperOf, lowerOf}
+use Rattle.contexts.specs.Context.{upperOf, lowerOf, contextOf}
 use Rattle.contexts.specs.declared.context.Half.{Half}
 use Rattle.contexts.specs.declared.context.Half.the-variants.{Upper, Lower}
-use Rattle.acts.specs.Acts.{storedOf, contextOf}
+use Rattle.acts.specs.Acts.{storedOf}
 use Rattle.decisions.specs.Valid.{Words, Valid, Bytes}
 use Rattle.decisions.proofs.Setters.{set-below, words-set}
 use Rattle.decisions.proofs.Values.{Word, word-word}

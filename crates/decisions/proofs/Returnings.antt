@@ -21,7 +21,7 @@ use Rattle.contexts.specs.declared.context.Half.{Half}
 use Rattle.contexts.specs.declared.context.Half.the-variants.{Upper, Lower}
 use Rattle.entries.specs.Entry.{MadeOf, made}
 use Rattle.decisions.specs.Valid.{Valid, Bytes}
-use Rattle.decisions.specs.Decision.{returningBy, returningOf}
+use Rattle.execute.specs.Decision.{returningBy, returningOf}
 use Rattle.decisions.proofs.Setters.{valid-core}
 use Rattle.decisions.proofs.Values.{word-word}
 use Rattle.decisions.proofs.Memories.{bytes-area, words-loaded}

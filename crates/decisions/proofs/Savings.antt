@@ -19,7 +19,7 @@ use Rattle.events.specs.declared.event.Event.the-variants as event
 use Rattle.events.specs.declared.event.Stop.{Stop}
 use Rattle.events.specs.declared.event.Ending.the-variants.{Made, Stopped}
 use Rattle.areas.specs.Link.{linkOf}
-use Rattle.contexts.specs.Context.{ulOf, upperOf}
+use Rattle.contexts.specs.Context.{ulOf, upperOf, contextOf}
 use Rattle.contexts.specs.Save.{Saving, roomOf, takeOf, foreseenBy, foreseenOf, savedBy, saveAtOf, saveBy, saveOf}
 use Rattle.contexts.proofs.Rooms.{room-link}
 use Rattle.contexts.specs.declared.context.Half.{Half}
@@ -27,10 +27,8 @@ use Rattle.contexts.specs.declared.context.Half.the-variants.{Upper}
 use Rattle.contexts.specs.declared.save.Room.{Room}
 use Rattle.contexts.specs.declared.save.Room.the-variants as room
 use Rattle.contexts.specs.declared.save.Saved.the-variants as saved
-use Rattle.entries.specs.Entry.{MadeOf, made, trapEntry, fcdOf, entering}
-use Rattle.acts.specs.Acts.{contextOf}
+use Rattle.entries.specs.Entry.{MadeOf, made, trapEntry, fcdOf, entering, savingOf}
 use Rattle.decisions.specs.Valid.{Valid}
-use Rattle.decisions.specs.Decision.{savingOf}
 use Rattle.decisions.proofs.Thens.{Then, withHeads, head-fcx}
 
 -- the registers with the heads set by a save into the area at byte `at`: PCXI and the next FCX

@@ -7,9 +7,7 @@ use lib.Seq.{getD-set-other}
 use Rattle.registers.specs.Registers.{pcxi, fcx, withD, withA, withPc, withPsw, withIcr}
 use Rattle.registers.specs.declared.Registers.{Registers}
 use Rattle.events.specs.declared.trap.Trap.{Trap}
-use Rattle.acts.specs.Acts.{Ended}
-use Rattle.acts.specs.declared.How.{How}
-use Rattle.acts.specs.declared.How.the-variants as how
+use Rattle.acts.specs.Acts.{Effect, Sets, Traps, TrapsAfter}
 use Rattle.decisions.specs.Valid.{Valid}
 use Rattle.decisions.proofs.Values.{Word}
 use Rattle.decisions.proofs.Setters.{valid-d, valid-a, valid-core, valid-pc}
@@ -71,14 +69,8 @@ pub record TrapBytes (t : Trap) : Type 0 where
   pub class : t .class < 2 ^ 8
   pub tin : t .tin < 2 ^ 8
 
--- an instruction that neither saves nor returns: done, or trapped with the registers as they were. No definition ends in Switched
-abbrev pub EndsBy : Type 0 → Registers → How → Registers → Type 0
-EndsBy quiet r how.Done q = Sound quiet r q
-EndsBy quiet r (how.Trap t) q = (q ≡ r) × TrapBytes t
-EndsBy quiet r (how.TrapAfter t) q = (q ≡ r) × TrapBytes t
-EndsBy quiet r how.Switched q = ⊥
-EndsBy quiet r how.Depleted q = ⊥
-EndsBy quiet r (how.Stopped s) q = ⊥
-
-abbrev pub EndsSound : Type 0 → Registers → Ended → Type 0
-EndsSound quiet r e = EndsBy quiet r (e .how) (e .registers)
+-- an instruction that leaves memory alone
+abbrev pub EndsSound : Type 0 → Registers → Effect → Type 0
+EndsSound quiet r (Sets q) = Sound quiet r q
+EndsSound quiet r (Traps t) = TrapBytes t
+EndsSound quiet r (TrapsAfter t) = TrapBytes t

@@ -2,7 +2,7 @@
 -- Assumes nothing.
 use Prim.Native.Nat.{ℕ, _^_, _<_}
 use native.Mathlib.Omega.{arith}
-use mathlib.Core.Path.{_≡_, refl, sym, subst, _∙_}
+use mathlib.Core.Path.{_≡_, refl, _∙_}
 use mathlib.Core.List.{List}
 use lib.ListN.{length}
 use Rattle.memory.specs.Memory.{Memory, memory}
@@ -15,17 +15,16 @@ use Rattle.events.specs.declared.event.Event.{Event}
 use Rattle.events.specs.declared.event.Stop.{Stop}
 use Rattle.events.specs.declared.event.Ending.the-variants.{Made, Stopped}
 use Rattle.protection.specs.declared.range.Range.{Range}
-use Rattle.contexts.specs.Context.{upperOf}
+use Rattle.contexts.specs.Context.{upperOf, contextOf}
 use Rattle.contexts.specs.declared.context.Half.{Half}
 use Rattle.contexts.specs.declared.context.Half.the-variants.{Upper}
 use Rattle.entries.specs.Entry.{MadeOf}
-use Rattle.acts.specs.Acts.{contextOf}
+use Rattle.execute.specs.Decision.{Decision, Keep, Write, Save, Return, performedOf}
 use Rattle.decisions.specs.Valid.{Valid, Bytes}
-use Rattle.decisions.specs.Phases.{oneOf}
-use Rattle.decisions.specs.Decision.{Decision, Keep, Write, Save, Return, decisionOf, performedOf}
+use Rattle.decisions.specs.Decision.{decisionOf, oneOf}
 use Rattle.decisions.proofs.Families.{small}
 use Rattle.decisions.proofs.Thens.{Then, ReturnThen, heads-valid, trap-then}
-use Rattle.decisions.proofs.Decides.{DecisionSound, one-is, decision-sound}
+use Rattle.decisions.proofs.Decides.{DecisionSound, decision-sound}
 use Rattle.decisions.proofs.Memories.{bytes-word, bytes-words, bytes-stored, stored-length, context-words}
 use Rattle.decisions.proofs.Savings.{afterSave, savedBytes, reached, SavingCase, lacks, lacks-second, saves, depletes, saving-case}
 use Rattle.decisions.proofs.Returnings.{ReturningCase, outside, returns, returning-case, loaded-valid}
@@ -100,4 +99,4 @@ module _ {r : Registers} (w : Valid r) (m : Memory) (b : Bytes (m .bytes)) where
   performed-kept quiet (Return half then) s = returning-kept half then (s .0) _ (returning-case half then r m)
 
   pub one-kept : {img : List ℕ} → Bytes img → (xs : List ℕ) (rs : List Range) → Kept r m (oneOf img r xs rs m)
-  one-kept {img = img} bi xs rs = subst (Kept r m) (sym (one-is bi w xs rs m b)) (performed-kept _ (decisionOf img r xs rs m) (decision-sound bi w xs rs m b))
+  one-kept {img = img} bi xs rs = performed-kept _ (decisionOf img r xs rs m) (decision-sound bi w xs rs m b)

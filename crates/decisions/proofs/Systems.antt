@@ -74,7 +74,7 @@ module _ {r : Registers} (w : Valid r) where
     enable-sound : (quiet : Type 0) (ie : Bool) → EndsSound quiet r (enableOf ie (i .next) r)
     unfolding enableOf
     enable-sound quiet ie =
-        either-has (EndsSound quiet r) (isUser0 (psw r)) (refl, small (omega arith) (omega arith))
+        either-has (EndsSound quiet r) (isUser0 (psw r)) (small (omega arith) (omega arith))
         (onward quiet w {i = i} o (sound-icr (sound-start w) _ (icr-word (icr r) ie (ICR·CCPN (icr r)) (w .core .each 5))))
 
     pub system-sound : (op : System) → EndsSound (systemWrites op i r ≡ false) r (systemOf op i r)
@@ -86,7 +86,7 @@ module _ {r : Registers} (w : Valid r) where
         let quiet : Type 0 = (isSupervisor (psw r) && isHead (namedOf (i .imm))) ≡ false in
         either-knows (EndsSound quiet r) (isSupervisor (psw r))
         (λ e. onward quiet w {i = i} o (weaken (λ h. (rw e at h)) (written-sound (namedOf (i .imm)) (named-not (i .imm)) (D r (i .a)) (w .d .each (i .a)))))
-        (λ e. (refl, small (omega arith) (omega arith)))
-    system-sound Trapv = either-has (EndsSound _ r) (PSW·V (psw r)) (refl, small (omega arith) (omega arith)) (onward _ w {i = i} o (sound-start w))
-    system-sound Trapsv = either-has (EndsSound _ r) (PSW·SV (psw r)) (refl, small (omega arith) (omega arith)) (onward _ w {i = i} o (sound-start w))
+        (λ e. small (omega arith) (omega arith))
+    system-sound Trapv = either-has (EndsSound _ r) (PSW·V (psw r)) (small (omega arith) (omega arith)) (onward _ w {i = i} o (sound-start w))
+    system-sound Trapsv = either-has (EndsSound _ r) (PSW·SV (psw r)) (small (omega arith) (omega arith)) (onward _ w {i = i} o (sound-start w))
     system-sound Rstv = onward _ w {i = i} o (sound-psw (sound-start w) _ (reset-psw (psw r)))

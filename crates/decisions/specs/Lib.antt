@@ -1,5 +1,5 @@
 -- A step of an accepted machine.
 pub mod Valid
-pub mod Phases
+pub mod Beginning
 pub mod Heads
 pub mod Decision
