@@ -1,7 +1,7 @@
 -- The range named for an access, case by case; and that it is the lowest which permits it.
 -- Assumes nothing.
 use Prim.Native.Nat.{ℕ, _+_, _≤_, _<_}
-use mathlib.Core.Path.{_≡_, refl, sym, ap, _∙_}
+use mathlib.Core.Path.{_≡_, refl, sym, ap, subst, _∙_}
 use mathlib.Core.Bool.{Bool, true, false, cond, not, _&&_}
 use mathlib.Core.List.{List}
 use mathlib.Core.Logic.{inl, inr}
@@ -22,6 +22,7 @@ use Rattle.protection.specs.declared.range.Right.{Right}
 use Rattle.protection.specs.declared.range.Right.the-variants as right
 use Rattle.protection.specs.declared.range.Permit.{Permit}
 use Rattle.protection.specs.declared.range.Permit.the-variants.{Unnamed}
+use Rattle.protection.specs.declared.access.Check.{Check}
 use Rattle.protection.specs.declared.access.Check.the-variants.{Passes, Fails}
 use Rattle.protection.proofs.Searches.{lowest-says, lowest-is}
 use Rattle.interrupts.specs.Sources.{bestOf, takes}
@@ -30,8 +31,10 @@ use Rattle.operations.specs.declared.Access.{Access as DataAccess}
 use Rattle.operations.specs.Forms.{operationNumber}
 use Rattle.image.specs.Fetch.{instructionAt, fetchOf}
 use Rattle.image.specs.declared.fetch.Instruction.{Instruction}
+use Rattle.image.specs.declared.fetch.Fetched.{Fetched}
 use Rattle.image.specs.declared.fetch.Fetched.the-variants.{Found, Nothing}
-use Rattle.permits.specs.Permits.{Access, none, access, dataBy, dataIn, dataAt, fetchAsked, dataAsked, permitOf, permitsBy, noPermits, permitsOf, Named}
+use Rattle.decisions.specs.Beginning.{Beginning, Interrupts, checkBegins, fetchingAt, beginningOf}
+use Rattle.permits.specs.Permits.{Access, none, access, dataBy, dataIn, fetchAsked, dataAsked, permitOf, permitsBy, noPermits, begunPermits, permitsOf, Named}
 use Rattle.permits.specs.declared.Permits.{Permits}
 
 module _ (core : List ℕ) (rs : List Range) where
@@ -87,34 +90,51 @@ module _ (core : List ℕ) (rs : List Range) where
 
   module _ (img a : List ℕ) where
     -- ---- of the instruction at PC
-    pub not-fetched : (t : Trap) → Fails t ≡ checkOf core rs right.Execute (getD core 0 0) → Unnamed ≡ permitOf core rs (dataAt img a core rs)
-    unfolding permitOf
+    pub not-fetched : (t : Trap) → Fails t ≡ checkOf core rs right.Execute (getD core 0 0) → Unnamed ≡ permitOf core rs (dataAsked a (fetchingAt img core rs (getD core 0 0)))
+    unfolding permitOf fetchingAt
     not-fetched t e = rw (← e)
 
     module _ (e : Passes ≡ checkOf core rs right.Execute (getD core 0 0)) where
-      pub no-record : Nothing ≡ fetchOf img (getD core 0 0) → Unnamed ≡ permitOf core rs (dataAt img a core rs)
-      unfolding permitOf
+      pub no-record : Nothing ≡ fetchOf img (getD core 0 0) → Unnamed ≡ permitOf core rs (dataAsked a (fetchingAt img core rs (getD core 0 0)))
+      unfolding permitOf fetchingAt
       no-record f = rw (← e, ← f)
 
-      pub of-record : (i : Instruction) → Found i ≡ fetchOf img (getD core 0 0) → {p : Permit} → p ≡ permitOf core rs (dataIn i a) → p ≡ permitOf core rs (dataAt img a core rs)
+      pub of-record : (i : Instruction) → Found i ≡ fetchOf img (getD core 0 0) → {p : Permit} → p ≡ permitOf core rs (dataIn i a) → p ≡ permitOf core rs (dataAsked a (fetchingAt img core rs (getD core 0 0)))
+      unfolding fetchingAt
       of-record i f h = rw (← e, ← f) h
 
     -- ---- of a step
     module _ (xs : List ℕ) where
-      abbrev pub Both : Permits → Type 0
-      Both p = (p ≡ permitsOf img a core xs rs) × (Exactly (Named core rs (fetchAsked core xs)) (p .fetch) × Exactly (Named core rs (dataAsked img a core xs rs)) (p .data))
+      abbrev Says : Beginning → Permits → Type 0
+      Says s p = (p ≡ begunPermits a core rs s) × (Exactly (Named core rs (fetchAsked (getD core 0 0) s)) (p .fetch) × Exactly (Named core rs (dataAsked a s)) (p .data))
 
-      both : (f d : Permit) → f ≡ permitOf core rs (fetchAsked core xs) → d ≡ permitOf core rs (dataAsked img a core xs rs) → Both (permitsBy f d)
+      says-both : (s : Beginning) (f d : Permit) → f ≡ permitOf core rs (fetchAsked (getD core 0 0) s) → d ≡ permitOf core rs (dataAsked a s) → Says s (permitsBy f d)
+      says-both s f d p q = (ap (λ (x : Permit). permitsBy x d) p ∙ ap (permitsBy (permitOf core rs (fetchAsked (getD core 0 0) s))) q, (named (fetchAsked (getD core 0 0) s) f p, named (dataAsked a s) d q))
+
+      abbrev pub Both : Permits → Type 0
+      Both p = (p ≡ permitsOf img a core xs rs) × (Exactly (Named core rs (fetchAsked (getD core 0 0) (beginningOf img core xs rs))) (p .fetch) × Exactly (Named core rs (dataAsked a (beginningOf img core xs rs))) (p .data))
+
+      both : (p : Permits) (s : Beginning) → beginningOf img core xs rs ≡ s → Says s p → Both p
       unfolding permitsOf
-      both f d p q = (ap (λ (x : Permit). permitsBy x d) p ∙ ap (permitsBy (permitOf core rs (fetchAsked core xs))) q, (named (fetchAsked core xs) f p, named (dataAsked img a core xs rs) d q))
+      both p s e h = subst (λ (x : Beginning). Says x p) (sym e) h
 
       pub both-off : SYSCON·PROTEN (getD core 9 0) ≡ false → Both noPermits
-      both-off p = both Unnamed Unnamed (off (fetchAsked core xs) p) (off (dataAsked img a core xs rs) p)
+      both-off p = let s = beginningOf img core xs rs in both noPermits s refl (says-both s Unnamed Unnamed (off (fetchAsked (getD core 0 0) s) p) (off (dataAsked a s) p))
 
       -- where an interrupt is taken, and where none is
       pub both-taken : takes (getD core 5 0) (bestOf xs .level) ≡ true → Both noPermits
-      unfolding permitOf
-      both-taken e = both Unnamed Unnamed (rw e) (rw e)
+      unfolding beginningOf
+      both-taken e = both noPermits (Interrupts (bestOf xs)) (rw e refl) (says-both (Interrupts (bestOf xs)) Unnamed Unnamed of-none of-none)
 
-      pub both-quiet : takes (getD core 5 0) (bestOf xs .level) ≡ false → {f d : Permit} → f ≡ permitOf core rs (access right.Execute (getD core 0 0)) → d ≡ permitOf core rs (dataAt img a core rs) → Both (permitsBy f d)
-      both-quiet e {f} {d} p q = both f d (rw e p) (rw e q)
+      asks-fetch : (c : Check) (f : Fetched) → fetchAsked (getD core 0 0) (checkBegins c f) ≡ access right.Execute (getD core 0 0)
+      asks-fetch (Fails t) f = refl
+      asks-fetch Passes Nothing = refl
+      asks-fetch Passes (Found i) = refl
+
+      fetch-asked : fetchAsked (getD core 0 0) (fetchingAt img core rs (getD core 0 0)) ≡ access right.Execute (getD core 0 0)
+      unfolding fetchingAt
+      fetch-asked = asks-fetch (checkOf core rs right.Execute (getD core 0 0)) (fetchOf img (getD core 0 0))
+
+      pub both-quiet : takes (getD core 5 0) (bestOf xs .level) ≡ false → {f d : Permit} → f ≡ permitOf core rs (access right.Execute (getD core 0 0)) → d ≡ permitOf core rs (dataAsked a (fetchingAt img core rs (getD core 0 0))) → Both (permitsBy f d)
+      unfolding beginningOf
+      both-quiet e {f} {d} p q = let s = fetchingAt img core rs (getD core 0 0) in both (permitsBy f d) s (rw e refl) (says-both s f d (p ∙ ap (permitOf core rs) (sym fetch-asked)) q)

@@ -6,25 +6,20 @@ use mathlib.Core.List.{List}
 use mathlib.Core.Logic.{_⊎_}
 use lib.ListN.{getD}
 use Rattle.fields.specs.Psw.{PSW·PRS}
-use Rattle.registers.specs.Core.{PC, PSW, ICR}
+use Rattle.registers.specs.Core.{PC, PSW}
 use Rattle.protection.specs.Range.{lowestOf, Lowest}
-use Rattle.protection.specs.Access.{checkOf, asks}
+use Rattle.protection.specs.Access.{asks}
 use Rattle.protection.specs.declared.range.Range.{Range}
 use Rattle.protection.specs.declared.range.Right.{Right}
 use Rattle.protection.specs.declared.range.Right.the-variants.{Read, Write, Execute}
 use Rattle.protection.specs.declared.range.Permit.{Permit}
 use Rattle.protection.specs.declared.range.Permit.the-variants.{Unnamed}
-use Rattle.protection.specs.declared.access.Check.{Check}
-use Rattle.protection.specs.declared.access.Check.the-variants.{Passes, Fails}
-use Rattle.interrupts.specs.Sources.{bestOf, takes}
 use Rattle.operations.specs.Operations.{accessOf}
 use Rattle.operations.specs.declared.Access.{Access as DataAccess}
 use Rattle.operations.specs.declared.Access.the-variants as data-access
-use Rattle.image.specs.Fetch.{fetchOf}
 use Rattle.image.specs.declared.fetch.Instruction.{Instruction}
-use Rattle.image.specs.declared.fetch.Fetched.{Fetched}
-use Rattle.image.specs.declared.fetch.Fetched.the-variants.{Found, Nothing}
 use Rattle.accesses.specs.Load.{addressIn}
+use Rattle.decisions.specs.Beginning.{Beginning, Interrupts, Traps, Executes, beginningOf}
 use Rattle.permits.specs.declared.Permits.{Permits}
 
 -- an access that a step makes: a right and an address
@@ -41,24 +36,16 @@ dataBy data-access.Write address = access Write address
 abbrev pub dataIn : Instruction → List ℕ → Access
 dataIn i a = dataBy (accessOf (i .op)) (addressIn i a)
 
-abbrev pub dataFound : List ℕ → Fetched → Access
-dataFound a Nothing = none
-dataFound a (Found i) = dataIn i a
+-- by a step's beginning, with the PC and the address registers before it: the fetch's access, none where an interrupt is taken; and the instruction's
+abbrev pub fetchAsked : ℕ → Beginning → Access
+fetchAsked pc (Interrupts b) = none
+fetchAsked pc (Traps t) = access Execute pc
+fetchAsked pc (Executes i) = access Execute pc
 
-abbrev pub dataChecked : List ℕ → List ℕ → ℕ → Check → Access
-dataChecked img a pc (Fails t) = none
-dataChecked img a pc Passes = dataFound a (fetchOf img pc)
-
--- that of the instruction at PC: none where the fetch traps
-abbrev pub dataAt : List ℕ → List ℕ → List ℕ → List Range → Access
-dataAt img a core rs = let pc = getD core PC 0 in dataChecked img a pc (checkOf core rs Execute pc)
-
--- the fetch's access, and the instruction's: none where an interrupt is taken
-abbrev pub fetchAsked : List ℕ → List ℕ → Access
-fetchAsked core xs = cond (takes (getD core ICR 0) (bestOf xs .level)) none (access Execute (getD core PC 0))
-
-abbrev pub dataAsked : List ℕ → List ℕ → List ℕ → List ℕ → List Range → Access
-dataAsked img a core xs rs = cond (takes (getD core ICR 0) (bestOf xs .level)) none (dataAt img a core rs)
+abbrev pub dataAsked : List ℕ → Beginning → Access
+dataAsked a (Interrupts b) = none
+dataAsked a (Traps t) = none
+dataAsked a (Executes i) = dataIn i a
 
 -- the range named for an access: of set PRS the lowest that permits it, and only where the ranges are asked
 unfoldable pub permitOf : List ℕ → List Range → Access → Permit
@@ -72,9 +59,12 @@ permitsBy f d = record { fetch = f; «data» = d }
 abbrev pub noPermits : Permits
 noPermits = permitsBy Unnamed Unnamed
 
+abbrev pub begunPermits : List ℕ → List ℕ → List Range → Beginning → Permits
+begunPermits a core rs s = permitsBy (permitOf core rs (fetchAsked (getD core PC 0) s)) (permitOf core rs (dataAsked a s))
+
 -- both of a step with these address and core registers and these requests
 unfoldable pub permitsOf : List ℕ → List ℕ → List ℕ → List ℕ → List Range → Permits
-permitsOf img a core xs rs = permitsBy (permitOf core rs (fetchAsked core xs)) (permitOf core rs (dataAsked img a core xs rs))
+permitsOf img a core xs rs = begunPermits a core rs (beginningOf img core xs rs)
 
 -- what is named for an access. The ranges are asked: a range of set PRS that permits it and before which none does, or no range where none permits. They are not: no range
 abbrev pub Named : List ℕ → List Range → Access → Permit → Type 0

@@ -23,14 +23,16 @@ use registers::plus;
 ghost use mathlib.Core.Path.{_≡_};
 ghost use mathlib.Core.Bool.{true};
 ghost use Prim.Native.Nat.{_+_, _≤_};
-ghost use lib.ListN.{length};
+ghost use lib.ListN.{length, getD};
 ghost use Rattle.words.specs.Exactly.{Exactly};
 ghost use Rattle.protection.specs.Range.{rangesIn};
 ghost use Rattle.image.specs.Records.{ImageHolds};
 ghost use Rattle.image.specs.Rest.{restOf};
 ghost use Rattle.image.specs.Marks.{longOnly};
 ghost use Rattle.image.specs.Fetch.{instructionAt, FieldsHold};
-ghost use Rattle.permits.specs.Permits.{access, dataIn, dataAt, fetchAsked, dataAsked, permitOf, permitsOf, Named};
+ghost use Rattle.registers.specs.Core.{PC};
+ghost use Rattle.decisions.specs.Beginning.{fetchingAt, beginningOf};
+ghost use Rattle.permits.specs.Permits.{access, dataIn, fetchAsked, dataAsked, permitOf, permitsOf, Named};
 
 // The ranges named for a step's fetch and for its data access.
 pub struct Permits {
@@ -98,7 +100,7 @@ fn permit_data(
     words: &[u32; 96],
 ) -> Permit
     requires { ⌜ ImageHolds (now image) × (long ≡ true → longOnly (now image) ≡ true) ⌝ }
-    ensures { λ r. ⌜ r ≡ permitOf (now (core .entry)) (rangesIn (now (words .entry))) (dataAt (now (image .entry)) (now (a .entry)) (now (core .entry)) (rangesIn (now (words .entry)))) ⌝ }
+    ensures { λ r. ⌜ r ≡ permitOf (now (core .entry)) (rangesIn (now (words .entry))) (dataAsked (now (a .entry)) (fetchingAt (now (image .entry)) (now (core .entry)) (rangesIn (now (words .entry))) (getD (now (core .entry)) PC 0))) ⌝ }
 {
     let pc = core[PC];
     match check_access(core, words, Right::Execute, pc) {
@@ -124,8 +126,8 @@ pub fn permits_of(
 ) -> Permits
     requires { ⌜ ImageHolds (now image) × (long ≡ true → longOnly (now image) ≡ true) ⌝ }
     ensures { λ r. ⌜ r ≡ permitsOf (now (image .entry)) (now (a .entry)) (now (core .entry)) (now (requests .entry)) (rangesIn (now (words .entry))) ⌝ }
-    ensures { λ r. ⌜ Exactly (Named (now (core .entry)) (rangesIn (now (words .entry))) (fetchAsked (now (core .entry)) (now (requests .entry)))) (r .fetch) ⌝ }
-    ensures { λ r. ⌜ Exactly (Named (now (core .entry)) (rangesIn (now (words .entry))) (dataAsked (now (image .entry)) (now (a .entry)) (now (core .entry)) (now (requests .entry)) (rangesIn (now (words .entry))))) (r .data) ⌝ }
+    ensures { λ r. ⌜ Exactly (Named (now (core .entry)) (rangesIn (now (words .entry))) (fetchAsked (getD (now (core .entry)) PC 0) (beginningOf (now (image .entry)) (now (core .entry)) (now (requests .entry)) (rangesIn (now (words .entry)))))) (r .fetch) ⌝ }
+    ensures { λ r. ⌜ Exactly (Named (now (core .entry)) (rangesIn (now (words .entry))) (dataAsked (now (a .entry)) (beginningOf (now (image .entry)) (now (core .entry)) (now (requests .entry)) (rangesIn (now (words .entry)))))) (r .data) ⌝ }
 {
     if !fields::syscon::protection(core[SYSCON]) {
         return Permits {
