@@ -13,3 +13,4 @@ pub mod Returnings
 pub mod Steps
 pub mod Owned
 pub mod Known
+pub mod Beginnings

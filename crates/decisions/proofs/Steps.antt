@@ -99,4 +99,5 @@ module _ {r : Registers} (w : Valid r) (m : Memory) (b : Bytes (m .bytes)) where
   performed-kept quiet (Return half then) s = returning-kept half then (s .0) _ (returning-case half then r m)
 
   pub one-kept : {img : List ℕ} → Bytes img → (xs : List ℕ) (rs : List Range) → Kept r m (oneOf img r xs rs m)
+  unfolding oneOf
   one-kept {img = img} bi xs rs = performed-kept _ (decisionOf img r xs rs m) (decision-sound bi w xs rs m b)

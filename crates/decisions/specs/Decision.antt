@@ -27,7 +27,7 @@ unfoldable pub decisionOf : List ℕ → Registers → List ℕ → List Range �
 decisionOf img r xs rs m = decidedBy r rs m (beginningOf img (r .core) xs rs)
 
 -- the step
-abbrev pub oneOf : List ℕ → Registers → List ℕ → List Range → Memory → MadeOf
+unfoldable pub oneOf : List ℕ → Registers → List ℕ → List Range → Memory → MadeOf
 oneOf img r xs rs m = performedOf (decisionOf img r xs rs m) r m
 
 -- the request of an interrupt that is taken clears
