@@ -4,14 +4,16 @@ use Prim.Native.Nat.{ℕ, zero, suc, _+_, _-_, _*_, _/_, _%_, _^_, _≤_, _<_}
 use native.Mathlib.Decide.{ℕ-discrete}
 use native.Mathlib.Omega.{arith}
 use mathlib.Core.Path.{_≡_, refl, sym, subst, _∙_}
-use mathlib.Core.Bool.{Bool, true, false}
+use mathlib.Core.Bool.{Bool, true, false, cond, _&&_}
 use mathlib.Core.List.{List}
-use lib.ListN.{length, getD, set, length-set, replicate, length-replicate, getD-replicate}
+use lib.ListN.{length, getD, set, length-set, replicate, length-replicate, getD-replicate, List·getD-eq-default}
+use lib.Dec.{eqb}
+use borrow.Author.Tests.{le-leb, lt-leb, eq-eqb, ne-eqb}
 use lib.Seq.{getD-set-same, getD-set-other}
 use Rattle.image.specs.Lengths.{addressAfter}
 use Rattle.image.specs.Table.{entriesOf, entryAt}
 use Rattle.image.specs.Rest.{rest, bodyWalk, restIn, recordAddress, Begins}
-use Rattle.image.specs.Marks.{markEntry, markIndex, markAddress, MarkHolds, MarksHold, Marked}
+use Rattle.image.specs.Marks.{markEntry, markIndex, markAddress, slotOf, biasOf, start, markedStart, MarkHolds, MarksHold, Marked}
 use Rattle.image.specs.Rules.{ImageRight}
 use Rattle.image.specs.declared.table.Entry.{Entry}
 use Rattle.image.proofs.Addresses.{after-none, after-rest, after-low, after-high}
@@ -41,6 +43,28 @@ put-marked img marks s m h n = record { marks-hold = put-holds img marks s m (h 
 -- a record of a body, by its index
 pub begins-there : (img : List ℕ) (i : ℕ) → i < entriesOf img → (e : Entry) → e ≡ entryAt img i → (k a : ℕ) → k < e .records → a ≡ addressAfter k img (e .offset) (e .load) → Begins img a i k
 begins-there img i h e is k a l y = (h, rw is at l, rw is at y)
+
+-- ---- where a walk to pc starts, by the mark in its place s
+module _ (marks : List ℕ) (shift i : ℕ) (e : Entry) (pc s : ℕ) (is : s ≡ slotOf (biasOf e) (i + 1) shift pc) where
+  pub start-marked : markEntry (getD marks s 0) ≡ i + 1 → markAddress (getD marks s 0) ≤ pc → start (markIndex (getD marks s 0)) (markAddress (getD marks s 0)) ≡ markedStart marks shift i e pc
+  unfolding markedStart
+  start-marked f l = rw (← is, eq-eqb _ _ f, le-leb _ _ l)
+
+  pub start-past : pc < markAddress (getD marks s 0) → start 0 (e .load) ≡ markedStart marks shift i e pc
+  unfolding markedStart
+  start-past l = rw (← is, lt-leb _ _ l) (by (eqb (markEntry (getD marks s 0)) (i + 1)))
+    where
+      by : (b : Bool) → start 0 (e .load) ≡ cond (b && false) (start (markIndex (getD marks s 0)) (markAddress (getD marks s 0))) (start 0 (e .load))
+      by true = refl
+      by false = refl
+
+  pub start-other : (markEntry (getD marks s 0) ≡ i + 1 → ⊥) → start 0 (e .load) ≡ markedStart marks shift i e pc
+  unfolding markedStart
+  start-other d = rw (← is, ne-eqb _ _ d)
+
+  -- there is no such place
+  pub start-unmarked : length marks ≤ s → start 0 (e .load) ≡ markedStart marks shift i e pc
+  start-unmarked l = start-other (λ x. let z = List·getD-eq-default marks 0 l in let y : markEntry 0 ≡ i + 1 = rw z at x in omega arith)
 
 -- ---- the search in one body, whose entry is e
 module _ (img : List ℕ) (g : ImageRight img) (i : ℕ) (h : i < entriesOf img) (e : Entry) (is : e ≡ entryAt img i) where

@@ -5,11 +5,11 @@ use crate::table::Entry;
 use crate::table::read_entry;
 use memory::word_at;
 ghost use mathlib.Core.Path.{_≡_};
-ghost use Prim.Native.Nat.{_+_, _/_, _<_};
+ghost use Prim.Native.Nat.{_+_, _<_};
 ghost use Rattle.image.specs.Table.{entriesOf, entryAt};
 ghost use Rattle.image.specs.Records.{ImageHolds};
-ghost use Rattle.image.specs.Rest.{farOf, Begins};
-ghost use Rattle.image.specs.Marks.{markEntry, markIndex, markAddress, slotOf, Marked};
+ghost use Rattle.image.specs.Rest.{Begins};
+ghost use Rattle.image.specs.Marks.{markEntry, markIndex, markAddress, slotOf, biasOf, Marked};
 
 // Whether an image has no short form; and the logarithm of how many addresses share a mark.
 pub struct Guide {
@@ -46,7 +46,7 @@ pub fn mark_address(m: u64) -> u32
 
 // What is added to an address of the body for its place among the marks: a record has 8 bytes in the image, and up to 4 addresses.
 pub fn bias_of(e: Entry) -> u32
-    ensures { λ r. ⌜ r ≡ farOf (e .load) (e .offset / 2) ⌝ }
+    ensures { λ r. ⌜ r ≡ biasOf e ⌝ }
 {
     std::num::wrapping_sub_u32(e.offset / 2, e.load)
 }
