@@ -41,7 +41,8 @@ span-of-requires c κs =
     let a = c .before .before .before .before .before .before .before .before .before .before .before .args in
     let n : 0 < c .before .before .before .before .rest-guided .result .rest .records = omega (arith, c .before .if1 .left) in
     let w = fetchable-says (a .core .now) (rangesIn (a .words .now)) _ _ n (sym (c .before .before .before .before .before .before .before .check-access .ensures) ∙ c .before .before .before .before .before .enum-told .given .1) in
-    (c .before .before .before .before .before .before .before .before .before .before .before .pre .0, c .before .before .before .before .rest-guided .ensures, n, rw (c .fetchable .ensures) (w .within))
+    let l = w .within in
+    (c .before .before .before .before .before .before .before .before .before .before .before .pre .0, c .before .before .before .before .rest-guided .ensures, n, omega (arith, c .fetchable .ensures))
 
 returns-2 : tie.Need-returns-2
 returns-2 c = let h = sym (c .before .t .given .1) ∙ c .before .before .before .check-access .ensures in (ahead-denied _ _ _ _ _ h, leads-denied _ _ _ _ h)
