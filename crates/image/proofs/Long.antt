@@ -30,7 +30,7 @@ long-more : (n : ℕ) (img : List ℕ) (at : ℕ) → longFrom (suc n) img at �
 unfolding longFrom
 long-more n img at = refl
 
-and-one : (b : Bool) → (b && true) ≡ b
+pub and-one : (b : Bool) → (b && true) ≡ b
 and-one true = refl
 and-one false = refl
 

@@ -12,7 +12,7 @@ use borrow.Author.Tests.{eqb-true, eqb-false, eq-eqb, ne-eqb}
 use lib.Dec.{eqb}
 use Rattle.image.specs.Lengths.{addressAfter}
 use Rattle.image.specs.Table.{entriesOf, entryAt, rangeEnd}
-use Rattle.image.specs.Rest.{rest, bodyWalk, restIn, restFrom, restOf, recordAddress, Begins}
+use Rattle.image.specs.Rest.{rest, bodyWalk, restIn, restFrom, restOf, entryFrom, entryOf, recordAddress, Begins}
 use Rattle.image.specs.Rules.{TableRight}
 use Rattle.image.specs.declared.fetch.Rest.{Rest}
 use Rattle.image.proofs.Addresses.{after-low, after-less, after-same}
@@ -30,6 +30,18 @@ module _ (n : ℕ) (img : List ℕ) (i pc : ℕ) (h : i < n) (r : Rest) (is : r 
   pub turn-here : (r .records ≡ 0 → ⊥) → r ≡ restFrom (n - i) img i pc
   unfolding restFrom
   turn-here t = rw (left, ← is, ne-eqb (r .records) 0 t)
+
+  pub entry-past : r .records ≡ 0 → entryFrom (n - (i + 1)) img (i + 1) pc ≡ entryFrom (n - i) img i pc
+  unfolding entryFrom
+  entry-past t = rw (left, ← is, eq-eqb (r .records) 0 t)
+
+  pub entry-here : (r .records ≡ 0 → ⊥) → i ≡ entryFrom (n - i) img i pc
+  unfolding entryFrom
+  entry-here t = rw (left, ← is, ne-eqb (r .records) 0 t)
+
+pub entry-end : (n : ℕ) (img : List ℕ) (i pc : ℕ) → n ≤ i → 0 ≡ entryFrom (n - i) img i pc
+unfolding entryFrom
+entry-end n img i pc h = let j : n - i ≡ 0 = omega arith in rw j
 
 pub turn-end : (n : ℕ) (img : List ℕ) (i pc : ℕ) → n ≤ i → rest 0 0 ≡ restFrom (n - i) img i pc
 unfolding restFrom
@@ -82,7 +94,7 @@ module _ (img : List ℕ) (pc : ℕ) where
   stands = stands-from (entriesOf img) 0 (omega arith) (λ j h. absurd (omega arith))
 
 -- the body whose walk finds a record has it
-pub in-entry : (img : List ℕ) (pc i : ℕ) → i < entriesOf img → (r : Rest) → r ≡ restIn img (entryAt img i) pc → 0 < r .records → Begins img pc i (entryAt img i .records - r .records)
+in-entry : (img : List ℕ) (pc i : ℕ) → i < entriesOf img → (r : Rest) → r ≡ restIn img (entryAt img i) pc → 0 < r .records → Begins img pc i (entryAt img i .records - r .records)
 in-entry img pc i h r is = rw is (by (restIn img (entryAt img i) pc) (walked (entryAt img i .records) img (entryAt img i .offset) (entryAt img i .load) pc))
   where
     by : (r : Rest) → Walked (entryAt img i .records) img (entryAt img i .offset) (entryAt img i .load) pc r → 0 < r .records → Begins img pc i (entryAt img i .records - r .records)
@@ -90,6 +102,24 @@ in-entry img pc i h r is = rw is (by (restIn img (entryAt img i) pc) (walked (en
     by _ (somewhere j k e) l =
         let z : entryAt img i .records - (entryAt img i .records - j) ≡ j = omega arith in
         rw z (h, k, sym e)
+
+-- the records from pc on are those of the entry's body
+entry-has : (img : List ℕ) (pc k i : ℕ) → i + k ≡ entriesOf img → 0 < restFrom k img i pc .records
+    → (entryFrom k img i pc < entriesOf img) × (restFrom k img i pc ≡ restIn img (entryAt img (entryFrom k img i pc)) pc)
+unfolding restFrom entryFrom
+entry-has img pc zero i e h = absurd (omega arith)
+entry-has img pc (suc k) i e h = go (eqb (restIn img (entryAt img i) pc .records) 0) (entry-has img pc k (i + 1)) h
+  where
+    go : (t : Bool)
+        → (i + 1 + k ≡ entriesOf img → 0 < restFrom k img (i + 1) pc .records → (entryFrom k img (i + 1) pc < entriesOf img) × (restFrom k img (i + 1) pc ≡ restIn img (entryAt img (entryFrom k img (i + 1) pc)) pc))
+        → 0 < cond t (restFrom k img (i + 1) pc) (restIn img (entryAt img i) pc) .records
+        → (cond t (entryFrom k img (i + 1) pc) i < entriesOf img) × (cond t (restFrom k img (i + 1) pc) (restIn img (entryAt img i) pc) ≡ restIn img (entryAt img (cond t (entryFrom k img (i + 1) pc) i)) pc)
+    go true r l = r (omega arith) l
+    go false r l = (omega arith, refl)
+
+pub entry-begins : (img : List ℕ) (pc : ℕ) → 0 < restOf img pc .records → Begins img pc (entryOf img pc) (entryAt img (entryOf img pc) .records - restOf img pc .records)
+unfolding restOf entryOf
+entry-begins img pc h = let (l, e) = entry-has img pc (entriesOf img) 0 (omega arith) h in in-entry img pc (entryOf img pc) l (restOf img pc) e h
 
 -- ---- one record begins at pc, since code ranges ascend and don't overlap
 module _ (img : List ℕ) (g : TableRight img) where

@@ -1,24 +1,60 @@
--- The records are tried one by one.
+-- The records are tried one by one, or several at a time.
 -- Assumes nothing.
 use Prim.Native.Nat.{ℕ, zero, suc, _+_, _-_, _*_, _/_, _%_, _≤_, _<_}
 use native.Mathlib.Nat.{sub-zero}
 use native.Mathlib.Omega.{arith}
 use mathlib.Core.Path.{_≡_, refl, sym, _∙_}
-use mathlib.Core.Bool.{Bool, true, false, not, _&&_}
+use mathlib.Core.Bool.{Bool, true, false, cond, not, _&&_, and-assoc}
 use mathlib.Core.List.{List}
 use lib.ListN.{length, getD}
 use lib.Dec.{eqb}
 use borrow.Author.Tests.{ne-eqb, not-false}
+use Rattle.words.proofs.Truth.{never}
 use Rattle.memory.specs.Word.{wordAt}
 use Rattle.operations.specs.Forms.{isShort, operationNumber}
 use Rattle.image.specs.Table.{bodiesOf}
-use Rattle.image.specs.Records.{recordHolds, recordAt, recordsFrom, totalOf}
+use Rattle.image.specs.Records.{recordHolds, recordAt, recordsFrom, held, totalOf}
 use Rattle.image.specs.Marks.{longFrom, longOnly}
-use Rattle.image.specs.declared.records.ImageCheck.the-variants.{Holds, Record}
+use Rattle.image.specs.declared.records.ImageCheck.{ImageCheck}
+use Rattle.image.specs.declared.records.ImageCheck.the-variants.{Holds, Table, Record}
 use Rattle.image.proofs.Tests.{word-form, word-record, word-short}
 use Rattle.image.proofs.Images.{Sized, turn-on, turn-fault, turn-end}
-use Rattle.image.proofs.Long.{pass-first, pass-on, pass-end}
+use Rattle.image.proofs.Long.{and-one, pass-first, pass-on, pass-end}
 
+-- ---- whether they all hold
+pub held-is : (c : ImageCheck) → held c ≡ true → c ≡ Holds
+held-is Holds e = refl
+held-is (Table p) e = absurd (never (sym e))
+held-is (Record k) e = absurd (never (sym e))
+
+held-more : (n : ℕ) (img : List ℕ) (at k : ℕ) → held (recordsFrom (suc n) img at k) ≡ (recordAt img at && held (recordsFrom n img (at + 8) (k + 1)))
+unfolding recordsFrom
+held-more n img at k = by (recordAt img at)
+  where
+    by : (b : Bool) → held (cond b (recordsFrom n img (at + 8) (k + 1)) (Record k)) ≡ (b && held (recordsFrom n img (at + 8) (k + 1)))
+    by true = refl
+    by false = refl
+
+module _ (img : List ℕ) (hold : Bool) where
+  pub held-first : hold ≡ true → (hold && held (recordsFrom (totalOf img - 0) img (bodiesOf img + 8 * 0) 0)) ≡ held (recordsFrom (totalOf img) img (bodiesOf img) 0)
+  held-first e =
+      let z : totalOf img - 0 ≡ totalOf img = omega arith in
+      let y : bodiesOf img + 8 * 0 ≡ bodiesOf img = omega arith in
+      rw (e, z, y)
+
+  pub held-on : (k : ℕ) → k < totalOf img
+      → (hold && recordAt img (bodiesOf img + 8 * k) && held (recordsFrom (totalOf img - (k + 1)) img (bodiesOf img + 8 * (k + 1)) (k + 1)))
+      ≡ (hold && held (recordsFrom (totalOf img - k) img (bodiesOf img + 8 * k) k))
+  held-on k h =
+      let z : totalOf img - k ≡ suc (totalOf img - (k + 1)) = omega arith in
+      let y : bodiesOf img + 8 * (k + 1) ≡ bodiesOf img + 8 * k + 8 = omega arith in
+      rw (z, y, held-more (totalOf img - (k + 1)) img (bodiesOf img + 8 * k) k)
+      (and-assoc hold (recordAt img (bodiesOf img + 8 * k)) (held (recordsFrom (totalOf img - (k + 1)) img (bodiesOf img + 8 * k + 8) (k + 1))))
+
+  pub held-end : (k : ℕ) → totalOf img ≤ k → (hold && held (recordsFrom (totalOf img - k) img (bodiesOf img + 8 * k) k)) ≡ hold
+  held-end k h = rw (← turn-end img (bodiesOf img + 8 * k) k refl h) (and-one hold)
+
+-- ---- one by one
 none-more : (n k : ℕ) → eqb (n + k) 0 ≡ (eqb n 0 && eqb k 0)
 none-more zero k = let e : 0 + k ≡ k = omega arith in rw e
 none-more (suc n) k = rw (ne-eqb (suc n + k) 0 (λ e. omega arith), ne-eqb (suc n) 0 (λ e. omega arith))

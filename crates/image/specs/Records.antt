@@ -1,7 +1,7 @@
 -- The records: 8 bytes each.
 use Prim.Native.Nat.{ℕ, zero, suc, _+_, _-_, _/_}
 use mathlib.Core.Path.{_≡_}
-use mathlib.Core.Bool.{Bool, cond, not, _&&_, _||_}
+use mathlib.Core.Bool.{Bool, true, false, cond, not, _&&_, _||_}
 use mathlib.Core.List.{List}
 use lib.ListN.{length, getD}
 use lib.Dec.{ltb, leb}
@@ -26,6 +26,12 @@ recordAt img at = recordHolds (operationNumber (getD img at 0)) (getD img (at + 
 unfoldable pub recordsFrom : ℕ → List ℕ → ℕ → ℕ → ImageCheck
 recordsFrom zero img at k = Holds
 recordsFrom (suc n) img at k = cond (recordAt img at) (recordsFrom n img (at + 8) (k + 1)) (Record k)
+
+-- whether every record holds
+abbrev pub held : ImageCheck → Bool
+held Holds = true
+held (Table p) = false
+held (Record k) = false
 
 -- how many records the bodies have: they fill the image after the table
 abbrev pub totalOf : List ℕ → ℕ

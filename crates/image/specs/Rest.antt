@@ -8,7 +8,6 @@ use Rattle.image.specs.Lengths.{lengthAt, addressAfter}
 use Rattle.image.specs.Table.{entriesOf, entryAt}
 use Rattle.image.specs.declared.table.Entry.{Entry}
 use Rattle.image.specs.declared.fetch.Rest.{Rest}
-use Rattle.image.specs.declared.fetch.InBody.{InBody}
 
 abbrev pub rest : ℕ → ℕ → Rest
 rest n at = record { records = n; at = at }
@@ -30,6 +29,14 @@ restFrom (suc k) img i pc = let r = restIn img (entryAt img i) pc in cond (eqb (
 unfoldable pub restOf : List ℕ → ℕ → Rest
 restOf img pc = restFrom (entriesOf img) img 0 pc
 
+-- the place of the entry whose body they are in: of k entries from place i on; 0 where no record begins at pc
+unfoldable pub entryFrom : ℕ → List ℕ → ℕ → ℕ → ℕ
+entryFrom zero img i pc = 0
+entryFrom (suc k) img i pc = cond (eqb (restIn img (entryAt img i) pc .records) 0) (entryFrom k img (i + 1) pc) i
+
+unfoldable pub entryOf : List ℕ → ℕ → ℕ
+entryOf img pc = entryFrom (entriesOf img) img 0 pc
+
 -- the distance of pc from an address, modulo 2^32
 abbrev pub farOf : ℕ → ℕ → ℕ
 farOf from pc = (pc + (2 ^ 32 - from)) % 2 ^ 32
@@ -49,7 +56,3 @@ recordAddress img i j = addressAfter j img (entryAt img i .offset) (entryAt img 
 -- it begins at pc
 abbrev pub Begins : List ℕ → ℕ → ℕ → ℕ → Type 0
 Begins img pc i j = (i < entriesOf img) × (j < entryAt img i .records) × (pc ≡ recordAddress img i j)
-
--- of records from pc on, the entry whose body they are in
-abbrev pub InEntry : List ℕ → ℕ → InBody → Type 0
-InEntry img pc b = 0 < b .rest .records → Begins img pc (b .entry) (entryAt img (b .entry) .records - b .rest .records)

@@ -18,8 +18,8 @@ ghost use lib.ListN.{length};
 ghost use Rattle.image.specs.Lengths.{addressAfter};
 ghost use Rattle.image.specs.Table.{entriesOf, entryAt};
 ghost use Rattle.image.specs.Records.{ImageHolds};
-ghost use Rattle.image.specs.Rest.{indexOf, IndexSays, Begins, bodyWalk, restIn, restOf, InEntry};
-ghost use Rattle.image.specs.Marks.{longOnly, MarksHold};
+ghost use Rattle.image.specs.Rest.{indexOf, IndexSays, Begins, bodyWalk, restIn, restOf, entryOf};
+ghost use Rattle.image.specs.Marks.{longOnly, markedStart, MarksHold};
 ghost use Rattle.image.specs.Fetch.{nextAfter, instructionAt, fetchOf, Bounded, FetchSays};
 
 // An instruction with its fields, and the address after it.
@@ -142,7 +142,7 @@ pub struct Start {
 // Where a walk to pc may start: at a mark that is not past it, or at the body's first record.
 fn start_of(image: &[u8], marks: &[u64], shift: u32, i: u32, e: Entry, pc: u32) -> Start
     requires { ⌜ ImageHolds (now image) × MarksHold (now image) (now marks) × (i < entriesOf (now image)) × (e ≡ entryAt (now image) i) × (e .load ≤ pc) ⌝ }
-    ensures { λ r. ⌜ (Begins (now (image .entry)) (r .address) i (r .index)) × (r .address ≤ pc) ⌝ }
+    ensures { λ r. ⌜ (r ≡ markedStart (now (marks .entry)) shift i e pc) × (Begins (now (image .entry)) (r .address) i (r .index)) × (r .address ≤ pc) ⌝ }
 {
     let slot = slot_of(bias_of(e), i + 1, shift, pc);
     if slot < marks.len() {
@@ -184,7 +184,7 @@ fn rest_in(image: &[u8], marks: &[u64], shift: u32, i: u32, pc: u32) -> Rest
 // The records of a body from pc on, of any image that rules 2 and 3 accept.
 pub fn rest_at(image: &[u8], marks: &[u64], shift: u32, pc: u32) -> InBody
     requires { ⌜ ImageHolds (now image) × MarksHold (now image) (now marks) ⌝ }
-    ensures { λ r. ⌜ (r .rest ≡ restOf (now (image .entry)) pc) × InEntry (now (image .entry)) pc r ⌝ }
+    ensures { λ r. ⌜ (r .rest ≡ restOf (now (image .entry)) pc) × (r .entry ≡ entryOf (now (image .entry)) pc) ⌝ }
 {
     let mut i: u32 = 0;
     loop {

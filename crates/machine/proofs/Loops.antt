@@ -2,10 +2,12 @@
 -- Assumes nothing.
 use Prim.Native.Nat.{ℕ, suc, _+_, _-_, _≤_, _<_}
 use native.Mathlib.Omega.{arith}
-use mathlib.Core.Path.{_≡_, sym, ap, subst, _∙_}
-use mathlib.Core.Bool.{true, false}
+use mathlib.Core.Path.{_≡_, refl, sym, ap, subst, _∙_}
+use mathlib.Core.Bool.{Bool, true, false, cond, not, _&&_}
 use mathlib.Core.List.{List}
 use mathlib.Core.Logic.{_⊎_, inl, inr, ⊎-elim}
+use lib.Dec.{eqb}
+use borrow.Author.Tests.{eqb-true, eq-eqb, ne-eqb}
 use Rattle.words.proofs.Truth.{never}
 use Rattle.memory.specs.Memory.{Memory}
 use Rattle.fields.specs.Icr.{ICR·IE}
@@ -16,17 +18,45 @@ use Rattle.events.specs.declared.event.Event.the-variants as event
 use Rattle.events.specs.declared.event.Stop.{Stop}
 use Rattle.events.specs.declared.event.Ending.the-variants as ending
 use Rattle.protection.specs.declared.range.Range.{Range}
-use Rattle.interrupts.specs.Sources.{bestOf, takes, clearedAt}
+use Rattle.interrupts.specs.Sources.{best, bestOf, takes, clearedAt}
 use Rattle.interrupts.specs.declared.Best.{Best}
 use Rattle.entries.specs.Entry.{MadeOf}
 use Rattle.decisions.specs.Phases.{interrupted, oneOf}
 use Rattle.machine.specs.Run.{RunOf, ran, runFrom}
-use Rattle.machine.specs.Inner.{Foremost, Ready, leftBy, Paces}
+use Rattle.machine.specs.Inner.{foremostOf, Ready, leftBy, Paces}
 use Rattle.machine.specs.declared.answer.Outcome.the-variants.{Made, Stopped}
 use Rattle.machine.specs.declared.instructions.Paced.{Paced}
 use Rattle.machine.proofs.Turns.{ready-next, run-made, run-stopped, run-end, off, taken-one, taken-requests}
 
--- the run that is to be made: n steps from r₀, xs₀ and m₀
+-- ---- the source that n steps begin with, by cases
+module _ (n icr : ℕ) (xs : List ℕ) where
+  pub foremost-none : n ≡ 1 → ICR·IE icr ≡ false → best 16 0 ≡ foremostOf n icr xs
+  unfolding foremostOf
+  foremost-none e f = rw (eq-eqb n 1 e, f)
+
+  pub foremost-several : (n ≡ 1 → ⊥) → bestOf xs ≡ foremostOf n icr xs
+  unfolding foremostOf
+  foremost-several d = rw (ne-eqb n 1 d)
+
+  pub foremost-enabled : ICR·IE icr ≡ true → bestOf xs ≡ foremostOf n icr xs
+  unfolding foremostOf
+  foremost-enabled e = rw e (by (eqb n 1))
+    where
+      by : (b : Bool) → bestOf xs ≡ cond (b && false) (best 16 0) (bestOf xs)
+      by true = refl
+      by false = refl
+
+  -- it is the best one, or none is taken
+  foremost-is : (foremostOf n icr xs ≡ bestOf xs) ⊎ ((n ≡ 1) × (ICR·IE icr ≡ false))
+  unfolding foremostOf
+  foremost-is = by (eqb n 1) (ICR·IE icr) refl refl
+    where
+      by : (b c : Bool) → eqb n 1 ≡ b → ICR·IE icr ≡ c → (cond (b && not c) (best 16 0) (bestOf xs) ≡ bestOf xs) ⊎ ((n ≡ 1) × (ICR·IE icr ≡ false))
+      by false c e f = inl refl
+      by true true e f = inl refl
+      by true false e f = inr (eqb-true n 1 e, f)
+
+-- ---- the run that is to be made: n steps from r₀, xs₀ and m₀
 module _ (n : ℕ) (img : List ℕ) (rs : List Range) (r₀ : Registers) (xs₀ : List ℕ) (m₀ : Memory) where
   abbrev Whole : RunOf
   Whole = runFrom n img rs (Made event.Instruction) 0 r₀ xs₀ m₀
@@ -38,11 +68,11 @@ module _ (n : ℕ) (img : List ℕ) (rs : List Range) (r₀ : Registers) (xs₀ 
     pub most : left ≤ n
     pub run : runFrom left img rs (Made last) (n - left) r xs m ≡ runFrom n img rs (Made event.Instruction) 0 r₀ xs₀ m₀
 
-  pub turn-first : (best : Best) → Ready img r₀ m₀ → Foremost n (icr r₀) xs₀ best → Turn n event.Instruction r₀ xs₀ m₀ best
+  pub turn-first : (best : Best) → Ready img r₀ m₀ → best ≡ foremostOf n (icr r₀) xs₀ → Turn n event.Instruction r₀ xs₀ m₀ best
   turn-first best y b =
       record {
         ready = y;
-        best-is = ⊎-elim inl (λ w. inr (w .0, λ e. w .1)) b;
+        best-is = ⊎-elim (λ e. inl (b ∙ e)) (λ w. inr (w .0, λ e. w .1)) (foremost-is n (icr r₀) xs₀);
         most = omega arith;
         run = let z : n - n ≡ 0 = omega arith in rw z;
       }

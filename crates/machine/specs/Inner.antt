@@ -1,9 +1,9 @@
 -- What the inner loop works with: an accepted machine whose values are those that the code can hold.
 use Prim.Native.Nat.{ℕ, _+_, _-_, _≤_, _<_}
 use mathlib.Core.Path.{_≡_}
-use mathlib.Core.Bool.{false}
+use mathlib.Core.Bool.{false, cond, not, _&&_}
 use mathlib.Core.List.{List}
-use mathlib.Core.Logic.{_⊎_}
+use lib.Dec.{eqb}
 use Rattle.memory.specs.Memory.{Memory}
 use Rattle.fields.specs.Icr.{ICR·IE}
 use Rattle.registers.specs.Registers.{pc, icr}
@@ -12,7 +12,7 @@ use Rattle.events.specs.declared.event.Event.{Event}
 use Rattle.events.specs.declared.event.Ending.{Ending}
 use Rattle.events.specs.declared.event.Ending.the-variants as ending
 use Rattle.protection.specs.declared.range.Range.{Range}
-use Rattle.interrupts.specs.Sources.{bestOf, takes}
+use Rattle.interrupts.specs.Sources.{best, bestOf, takes}
 use Rattle.interrupts.specs.declared.Best.{Best}
 use Rattle.inputs.specs.Checks.{stepVerdict}
 use Rattle.inputs.specs.declared.verdict.Verdict.the-variants.{Accepted}
@@ -21,9 +21,9 @@ use Rattle.machine.specs.Run.{RunOf, ran, runFrom}
 use Rattle.machine.specs.declared.answer.Outcome.the-variants as outcome
 use Rattle.machine.specs.declared.instructions.Paced.{Paced}
 
--- the best source, for n steps from that ICR on: any will do for a single step that takes none
-abbrev pub Foremost : ℕ → ℕ → List ℕ → Best → Type 0
-Foremost n icr xs best = (best ≡ bestOf xs) ⊎ ((n ≡ 1) × (ICR·IE icr ≡ false))
+-- the source that n steps from that ICR on begin with: the best one; none, which is 16 and 0, for a single step with IE 0
+unfoldable pub foremostOf : ℕ → ℕ → List ℕ → Best
+foremostOf n icr xs = cond (eqb n 1 && not (ICR·IE icr)) (best 16 0) (bestOf xs)
 
 pub record Ready (img : List ℕ) (r : Registers) (m : Memory) : Type 0 where
   pub accepted : stepVerdict m img (pc r) ≡ Accepted

@@ -17,14 +17,14 @@ ghost use Rattle.registers.specs.Registers.{registers};
 ghost use Rattle.protection.specs.Range.{rangesIn};
 ghost use Rattle.machine.specs.Step.{outcomeOf};
 ghost use Rattle.machine.specs.Run.{ran, runFrom};
-ghost use Rattle.machine.specs.Inner.{Foremost, Ready};
+ghost use Rattle.machine.specs.Inner.{foremostOf, Ready};
 ghost use Rattle.image.specs.Marks.{Guides};
 ghost use Rattle.machine.specs.declared.answer.Outcome.the-variants as outcome;
 ghost use Rattle.events.specs.declared.event.Event.the-variants as event;
 
 // The best source at the start of n steps. A single step with IE 0 takes none, and the sources are not looked through for it.
 fn first_source(sources: &[u32; 16], icr: u32, n: u32) -> Best
-    ensures { λ r. ⌜ Foremost n icr (now (sources .entry)) r ⌝ }
+    ensures { λ r. ⌜ r ≡ foremostOf n icr (now (sources .entry)) ⌝ }
 {
     if n == 1 {
         if !fields::icr::enabled(icr) {

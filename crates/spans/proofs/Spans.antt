@@ -3,9 +3,14 @@
 use Prim.Native.Nat.{ℕ, _+_, _-_, _*_, _%_, _^_, _≤_, _<_}
 use native.Mathlib.Omega.{arith}
 use mathlib.Core.Path.{_≡_, refl, sym, ap, subst, _∙_}
-use mathlib.Core.Bool.{Bool, true, false, cond}
+use mathlib.Core.Bool.{Bool, true, false, cond, _&&_}
 use mathlib.Core.List.{List}
-use lib.ListN.{length, getD}
+use mathlib.Core.Logic.{_⊎_, inl, inr}
+use lib.ListN.{length, getD, List·getD-eq-default}
+use lib.Dec.{ltb, leb, eqb}
+use borrow.Author.Tests.{ltb-true, leb-true, lt-ltb, le-ltb, le-leb, lt-leb, eq-eqb, ne-eqb}
+use Rattle.words.proofs.Integers.{lt-or-ge}
+use Rattle.words.proofs.Truth.{never, both-true}
 use Rattle.fields.specs.Psw.{PSW·PRS}
 use Rattle.fields.specs.Syscon.{SYSCON·PROTEN}
 use Rattle.memory.specs.Memory.{Memory}
@@ -13,39 +18,50 @@ use Rattle.registers.specs.Registers.{pc}
 use Rattle.registers.specs.declared.Registers.{Registers}
 use Rattle.events.specs.Traps.{CODE}
 use Rattle.events.specs.declared.trap.Trap.{Trap}
-use Rattle.protection.specs.Range.{rangesIn, noRange, PermittedBy}
+use Rattle.protection.specs.Range.{rangesIn, noRange, lowestOf, PermittedBy, Lowest}
 use Rattle.protection.specs.Access.{checkOf}
 use Rattle.protection.specs.declared.range.Range.{Range}
 use Rattle.protection.specs.declared.range.Right.the-variants.{Execute}
+use Rattle.protection.specs.declared.range.Permit.{Permit}
+use Rattle.protection.specs.declared.range.Permit.the-variants.{Unnamed, By}
 use Rattle.protection.specs.declared.access.Check.the-variants.{Passes, Fails}
 use Rattle.protection.proofs.Ranges.{ranges-at}
-use Rattle.protection.proofs.Searches.{one-of-all, below-upper, onward}
+use Rattle.protection.proofs.Searches.{lowest-says, one-of-all, below-upper, onward}
 use Rattle.protection.proofs.Checks.{unasked, allowed, same-check}
 use Rattle.image.specs.Lengths.{lengthOf, addressAfter}
 use Rattle.image.specs.Table.{entryAt}
-use Rattle.image.specs.Rest.{rest, restOf, recordAddress, IndexSays, Begins, InEntry}
-use Rattle.image.specs.Marks.{longOnly}
+use Rattle.image.specs.Rest.{rest, bodyWalk, restOf, entryOf, recordAddress, IndexSays, Begins}
+use Rattle.image.specs.Marks.{longOnly, markEntry, markIndex, slotOf}
+use Rattle.image.specs.declared.marks.Guide.{Guide}
 use Rattle.image.specs.Rules.{ImageRight}
 use Rattle.image.specs.Fetch.{nextAfter, instructionAt, fetchOf}
 use Rattle.image.specs.declared.fetch.Fetched.the-variants.{Found, Nothing}
 use Rattle.image.specs.declared.fetch.Rest.{Rest}
 use Rattle.image.specs.declared.fetch.InBody.{InBody}
 use Rattle.image.proofs.Addresses.{after-low, after-high, after-less, after-join, after-plus}
-use Rattle.image.proofs.Rests.{rest-of}
+use Rattle.image.proofs.Walks.{Walked, nowhere, somewhere, walked, walk-before, turn-found, turn-on, turn-end}
+use Rattle.image.proofs.Rests.{rest-of, entry-begins}
 use Rattle.image.proofs.Fetches.{rest-bounds, rest-long, next, fetch-next}
 use Rattle.entries.specs.Entry.{trapOf}
 use Rattle.acts.specs.Steady.{Steady}
 use Rattle.execute.specs.Execute.{executeOf}
 use Rattle.decisions.specs.Phases.{instructionOf}
-use Rattle.spans.specs.Spans.{Fetchable, begin, LiesInBody, Lies, Stretches, SpanHolds, IndexIn, Current, PlaceIn}
+use Rattle.spans.specs.Spans.{recordsBelow, fetchableBy, fetchableOf, foundOf, spanOf, aheadOf, begin, LiesInBody, Lies, SpanHolds, indexOn, namesIn, markedIndex, IndexIn, Current, placeOf, PlaceIn}
 use Rattle.spans.specs.declared.Span.{Span}
+use Rattle.spans.specs.declared.Ahead.the-variants.{Records, Traps}
 
 -- ---- of the records from pc on, those that protection lets be fetched
+-- of `most` records from pc on, whatever their lengths, the first n pass the fetch's check
+pub record Fetchable (core : List ℕ) (rs : List Range) (pc most n : ℕ) : Type 0 where
+  pub some : 0 < n
+  pub within : n ≤ most
+  pub passes : (a : ℕ) → pc ≤ a → a + 4 ≤ pc + 4 * n → a < 0xE000_0000 → checkOf core rs Execute a ≡ Passes
+
 module _ (core : List ℕ) (rs : List Range) (pc most : ℕ) (n0 : 0 < most) where
-  pub all-unasked : SYSCON·PROTEN (getD core 9 0) ≡ false → Fetchable core rs pc most most
+  all-unasked : SYSCON·PROTEN (getD core 9 0) ≡ false → Fetchable core rs pc most most
   all-unasked p = record { some = n0; within = omega arith; passes = λ a l h b. sym (unasked core rs Execute a b p) }
 
-  pub the-first : checkOf core rs Execute pc ≡ Passes → Fetchable core rs pc most 1
+  the-first : checkOf core rs Execute pc ≡ Passes → Fetchable core rs pc most 1
   the-first p =
       record {
         some = omega arith;
@@ -54,13 +70,35 @@ module _ (core : List ℕ) (rs : List Range) (pc most : ℕ) (n0 : 0 < most) whe
       }
 
   -- below the upper bound of a range that permits the first
-  pub by-range : (k n : ℕ) → SYSCON·PROTEN (getD core 9 0) ≡ true → PermittedBy rs (PSW·PRS (getD core 1 0)) Execute pc k → 0 < n → n ≤ most → pc + 4 * n < getD rs k noRange .upper + 4 → Fetchable core rs pc most n
+  by-range : (k n : ℕ) → SYSCON·PROTEN (getD core 9 0) ≡ true → PermittedBy rs (PSW·PRS (getD core 1 0)) Execute pc k → 0 < n → n ≤ most → pc + 4 * n < getD rs k noRange .upper + 4 → Fetchable core rs pc most n
   by-range k n p a s w u =
       record {
         some = s;
         within = w;
         passes = λ x l h b. sym (allowed core rs Execute x k b p (onward rs (PSW·PRS (getD core 1 0)) Execute pc k a x l (omega arith)));
       }
+
+  pub fetchable-says : checkOf core rs Execute pc ≡ Passes → Fetchable core rs pc most (fetchableOf core rs pc most)
+  unfolding fetchableOf
+  fetchable-says h = by (SYSCON·PROTEN (getD core 9 0)) refl
+    where
+      by-permit : SYSCON·PROTEN (getD core 9 0) ≡ true → (p : Permit) → Lowest rs (PSW·PRS (getD core 1 0)) Execute pc p → Fetchable core rs pc most (fetchableBy rs pc most p)
+      by-permit e (By k) l = let u = below-upper rs (PSW·PRS (getD core 1 0)) Execute pc k (l .one) in by-range k (fetchableBy rs pc most (By k)) e (l .one) (omega arith) (omega arith) (omega arith)
+      by-permit e Unnamed l = the-first h
+
+      by : (b : Bool) → SYSCON·PROTEN (getD core 9 0) ≡ b → Fetchable core rs pc most (cond b (fetchableBy rs pc most (lowestOf rs (PSW·PRS (getD core 1 0)) Execute pc)) most)
+      by true e = by-permit e (lowestOf rs (PSW·PRS (getD core 1 0)) Execute pc) (lowest-says rs Execute pc (PSW·PRS (getD core 1 0)))
+      by false e = all-unasked e
+
+-- the number by cases
+module _ (core : List ℕ) (rs : List Range) (pc most : ℕ) where
+  pub fetch-all : SYSCON·PROTEN (getD core 9 0) ≡ false → most ≡ fetchableOf core rs pc most
+  unfolding fetchableOf
+  fetch-all e = rw e
+
+  pub fetch-by : (p : Permit) → SYSCON·PROTEN (getD core 9 0) ≡ true → p ≡ lowestOf rs (PSW·PRS (getD core 1 0)) Execute pc → fetchableBy rs pc most p ≡ fetchableOf core rs pc most
+  unfolding fetchableOf
+  fetch-by p e q = rw (e, ← q)
 
 -- the upper bound as the words have it
 module _ (ws core : List ℕ) (address k : ℕ) (a : PermittedBy (rangesIn ws) (PSW·PRS (getD core 1 0)) Execute address k) where
@@ -74,19 +112,45 @@ module _ (ws core : List ℕ) (address k : ℕ) (a : PermittedBy (rangesIn ws) (
   below-bound = rw upper-is (below-upper (rangesIn ws) (PSW·PRS (getD core 1 0)) Execute address k a)
 
 -- ---- the span at pc
--- where in its body the record at pc stands
-pub in-body : (img : List ℕ) → ImageRight img → (pc : ℕ) (b : InBody) → b .rest ≡ restOf img pc → InEntry img pc b → 0 < b .rest .records
-    → Begins img pc (b .entry) (entryAt img (b .entry) .records - b .rest .records) × (b .rest .at ≡ entryAt img (b .entry) .offset + 8 * (entryAt img (b .entry) .records - b .rest .records)) × (b .rest .records ≤ entryAt img (b .entry) .records)
-in-body img g pc b e i h =
-    let s = i h in
-    let j = entryAt img (b .entry) .records - b .rest .records in
-    let r = e ∙ rest-of img (g .table) pc (b .entry) j s in
-    let n : b .rest .records ≡ entryAt img (b .entry) .records - j = ap (λ (x : Rest). x .records) r in
-    (s, ap (λ (x : Rest). x .at) r, omega arith)
+module _ (img : List ℕ) (g : ImageRight img) (long : Bool) (pc : ℕ) (b : InBody) (is : b ≡ foundOf img long pc) (h : 0 < b .rest .records) where
+  found-rest : b .rest ≡ restOf img pc
+  found-rest = ap (λ (x : InBody). x .rest) is
 
--- the records from pc on end in the image
-pub rest-ends : (img : List ℕ) → ImageRight img → (pc : ℕ) (b : InBody) → b .rest ≡ restOf img pc → 0 < b .rest .records → b .rest .at + 8 * b .rest .records ≤ length img
-rest-ends img g pc b e h = rw e (rest-bounds img g pc (rw e at h) .inside)
+  -- the records from pc on end in the image
+  pub rest-ends : b .rest .at + 8 * b .rest .records ≤ length img
+  rest-ends = rw found-rest (rest-bounds img g pc (rw found-rest at h) .inside)
+
+  -- where in its body the record at pc stands
+  pub in-body : long ≡ false → Begins img pc (b .entry) (entryAt img (b .entry) .records - b .rest .records) × (b .rest .at ≡ entryAt img (b .entry) .offset + 8 * (entryAt img (b .entry) .records - b .rest .records)) × (b .rest .records ≤ entryAt img (b .entry) .records)
+  in-body f =
+      let i : b .entry ≡ entryOf img pc = ap (λ (x : InBody). x .entry) is ∙ rw f in
+      let s : Begins img pc (b .entry) (entryAt img (b .entry) .records - b .rest .records) = rw (found-rest, i) (entry-begins img pc (rw found-rest at h)) in
+      let j = entryAt img (b .entry) .records - b .rest .records in
+      let r = found-rest ∙ rest-of img (g .table) pc (b .entry) j s in
+      let n : b .rest .records ≡ entryAt img (b .entry) .records - j = ap (λ (x : Rest). x .records) r in
+      (s, ap (λ (x : Rest). x .at) r, omega arith)
+
+-- the first n of the records from pc on, of which the first stands at byte `at`
+pub record Stretches (img : List ℕ) (long : Bool) (pc n at : ℕ) (s : Span) : Type 0 where
+  pub from : s .from ≡ pc
+  pub records : s .records ≡ n
+  pub at-is : s .at ≡ at
+  pub ends : s .end ≡ at + 8 * n
+  pub counted : s .long ≡ cond long n 0
+  pub body : long ≡ false → LiesInBody img s
+
+pub stretches : (img : List ℕ) (long : Bool) (pc n : ℕ) → ImageRight img → 0 < restOf img pc .records → Stretches img long pc n (restOf img pc .at) (spanOf img long pc n)
+stretches img true pc n g h = record { from = refl; records = refl; at-is = refl; ends = refl; counted = refl; body = λ e. absurd (never e) }
+stretches img false pc n g h =
+    let (b, at, l) = in-body img g false pc (foundOf img false pc) refl h refl in
+    record {
+      from = refl;
+      records = refl;
+      at-is = refl;
+      ends = refl;
+      counted = refl;
+      body = λ e. record { entry = entryOf img pc; is = refl; begins = b; few = omega (arith, g .table .entries (entryOf img pc) (b .0) .most, l); place = at };
+    }
 
 pub span-of : {img core : List ℕ} {rs : List Range} (pc n : ℕ) (long : Bool) (s : Span) → ImageRight img → (long ≡ true → longOnly img ≡ true) → 0 < restOf img pc .records → Fetchable core rs pc (restOf img pc .records) n
     → Stretches img long pc n (restOf img pc .at) s → SpanHolds img long core rs s
@@ -128,6 +192,20 @@ module _ (img core : List ℕ) (rs : List Range) where
       let f : fetchOf img (pc r) ≡ Nothing = subst (λ (x : List ℕ). fetchOf img (getD x 0 0) ≡ Nothing) (sym e) (sym n) in
       rw (c, f)
 
+-- ---- what lies at PC, by cases
+module _ (img : List ℕ) (long : Bool) (core : List ℕ) (rs : List Range) where
+  pub ahead-denied : (t : Trap) → Fails t ≡ checkOf core rs Execute (getD core 0 0) → Traps t ≡ aheadOf img long core rs
+  unfolding aheadOf
+  ahead-denied t h = rw (← h)
+
+  pub ahead-nothing : Passes ≡ checkOf core rs Execute (getD core 0 0) → restOf img (getD core 0 0) .records ≡ 0 → Traps CODE ≡ aheadOf img long core rs
+  unfolding aheadOf
+  ahead-nothing h n = rw (← h, eq-eqb _ _ n)
+
+  pub ahead-records : Passes ≡ checkOf core rs Execute (getD core 0 0) → (restOf img (getD core 0 0) .records ≡ 0 → ⊥) → Records (spanOf img long (getD core 0 0) (fetchableOf core rs (getD core 0 0) (restOf img (getD core 0 0) .records))) ≡ aheadOf img long core rs
+  unfolding aheadOf
+  ahead-records h n = rw (← h, ne-eqb _ _ n)
+
 -- ---- an instruction of a span
 module _ {img : List ℕ} (r : Registers) {rs : List Range} {long : Bool} {s : Span} (h : SpanHolds img long (r .core) rs s) where
   pub in-span : (k : ℕ) → k < s .records → pc r ≡ begin img s k → (m : Memory) → executeOf (instructionAt img (s .at + 8 * k) (pc r)) r rs m ≡ instructionOf img r rs m
@@ -157,8 +235,100 @@ module _ (img : List ℕ) (s : Span) where
     pub within : j ≤ s .records
     pub at : a ≡ begin img s j
 
-  pub here-says : {j a : ℕ} → Here j a → (pc : ℕ) → a ≡ pc → IndexIn img s pc j
-  here-says h pc e l = sym e ∙ h .at
+  -- the index by the walk from the record with index j on
+  module _ (j pc : ℕ) where
+    pub index-end : s .records ≤ j → s .records ≡ indexOn img s j pc
+    unfolding indexOn
+    index-end h = rw (← turn-end (s .records) img (s .at) (begin img s j) pc j h) (omega arith)
+
+    pub index-past : pc < begin img s j → s .records ≡ indexOn img s j pc
+    unfolding indexOn
+    index-past h = rw (walk-before (s .records - j) img (s .at + 8 * j) (begin img s j) pc h) (omega arith)
+
+    index-found : j < s .records → begin img s j ≡ pc → j ≡ indexOn img s j pc
+    unfolding indexOn
+    index-found h e = rw (← turn-found (s .records) img (s .at) (begin img s j) pc j h e) (omega arith)
+
+    pub index-here : j ≤ s .records → begin img s j ≡ pc → j ≡ indexOn img s j pc
+    index-here h e = by (lt-or-ge j (s .records))
+      where
+        by : (j < s .records) ⊎ (s .records ≤ j) → j ≡ indexOn img s j pc
+        by (inl l) = index-found l e
+        by (inr l) = let z : j ≡ s .records = omega arith in z ∙ index-end l
+
+    pub index-up : j < s .records → (begin img s j ≡ pc → ⊥) → indexOn img s (j + 1) pc ≡ indexOn img s j pc
+    unfolding indexOn
+    index-up h d = rw (after-plus j img (s .at) (s .from), turn-on (s .records) img (s .at) (begin img s j) pc j h d)
+
+    -- an index that the walk finds is that of the record that begins at pc
+    pub index-in : j ≤ s .records → IndexIn img s pc (indexOn img s j pc)
+    unfolding indexOn
+    index-in h = by (bodyWalk (s .records - j) img (s .at + 8 * j) (begin img s j) pc) (walked (s .records - j) img (s .at + 8 * j) (begin img s j) pc)
+      where
+        by : (r : Rest) → Walked (s .records - j) img (s .at + 8 * j) (begin img s j) pc r → IndexIn img s pc (s .records - r .records)
+        by _ (nowhere n) l = absurd (omega arith)
+        by _ (somewhere i k e) l =
+            let z : s .records - (s .records - j - i) ≡ j + i = omega arith in
+            rw (z, after-join j i img (s .at) (s .from)) (sym e)
+
+  -- the index by the mark in the place p for pc
+  module _ (shift : ℕ) (marks : List ℕ) (pc p : ℕ) (is : p ≡ slotOf (s .bias) (s .entry) shift pc) where
+    unnamed : namesIn s (getD marks p 0) ≡ false → s .records ≡ markedIndex img shift marks s pc
+    unfolding markedIndex
+    unnamed e = rw (← is, e)
+
+    pub marked-other : (markEntry (getD marks p 0) ≡ s .entry → ⊥) → s .records ≡ markedIndex img shift marks s pc
+    marked-other d = unnamed (rw (ne-eqb _ _ d))
+
+    -- there is no such place
+    pub marked-none : (i : ℕ) → s .entry ≡ i + 1 → length marks ≤ p → s .records ≡ markedIndex img shift marks s pc
+    marked-none i e l = marked-other (λ x. let z = List·getD-eq-default marks 0 l in let y : markEntry 0 ≡ s .entry = rw z at x in omega arith)
+
+    -- the record k after the span's first, counted modulo 2^32, is not in the span, or is
+    module _ (k : ℕ) (k32 : k < 2 ^ 32) (f : s .first < 0x1_0000) (m : s .records ≤ 0x1_0000) (w : (k + s .first) % 2 ^ 32 ≡ markIndex (getD marks p 0)) where
+      pub marked-outside : s .records ≤ k → s .records ≡ markedIndex img shift marks s pc
+      marked-outside l = unnamed (by (eqb (markEntry (getD marks p 0)) (s .entry)) (lt-or-ge (markIndex (getD marks p 0)) (s .first)))
+        where
+          by : (b : Bool) → (markIndex (getD marks p 0) < s .first) ⊎ (s .first ≤ markIndex (getD marks p 0)) → (b && (leb (s .first) (markIndex (getD marks p 0)) && ltb (markIndex (getD marks p 0)) (s .first + s .records))) ≡ false
+          by false o = refl
+          by true (inl o) = rw (lt-leb _ _ o)
+          by true (inr o) = let q : s .first + s .records ≤ markIndex (getD marks p 0) = omega arith in rw (le-leb _ _ o, le-ltb _ _ q)
+
+      pub marked-inside : markEntry (getD marks p 0) ≡ s .entry → k < s .records → indexOn img s k pc ≡ markedIndex img shift marks s pc
+      unfolding markedIndex
+      marked-inside e l =
+          let q : s .first ≤ markIndex (getD marks p 0) = omega arith in
+          let r : markIndex (getD marks p 0) < s .first + s .records = omega arith in
+          let z : k ≡ markIndex (getD marks p 0) - s .first = omega arith in
+          rw (← is, eq-eqb _ _ e, le-leb _ _ q, lt-ltb _ _ r, ← z)
+
+  pub marked-in : (shift : ℕ) (marks : List ℕ) (pc : ℕ) → IndexIn img s pc (markedIndex img shift marks s pc)
+  unfolding markedIndex
+  marked-in shift marks pc = by (getD marks (slotOf (s .bias) (s .entry) shift pc) 0)
+    where
+      by-name : (m : ℕ) (b : Bool) → namesIn s m ≡ b → IndexIn img s pc (cond b (indexOn img s (markIndex m - s .first) pc) (s .records))
+      by-name m false e = outside pc
+      by-name m true e =
+          let t = both-true (eqb (markEntry m) (s .entry)) (leb (s .first) (markIndex m) && ltb (markIndex m) (s .first + s .records)) e .1 in
+          let u = ltb-true (markIndex m) (s .first + s .records) (both-true (leb (s .first) (markIndex m)) (ltb (markIndex m) (s .first + s .records)) t .1) in
+          index-in (markIndex m - s .first) pc (omega arith)
+
+      by : (m : ℕ) → IndexIn img s pc (cond (namesIn s m) (indexOn img s (markIndex m - s .first) pc) (s .records))
+      by m = by-name m (namesIn s m) refl
+
+  -- the place by cases
+  module _ (guide : Guide) (marks : List ℕ) (at next pc : ℕ) where
+    pub place-long : guide .long ≡ true → s .end ≡ placeOf img guide marks s at next pc
+    unfolding placeOf
+    place-long e = rw e
+
+    pub place-follows : guide .long ≡ false → pc ≡ next → at + 8 ≡ placeOf img guide marks s at next pc
+    unfolding placeOf
+    place-follows e f = rw (e, eq-eqb _ _ f)
+
+    pub place-marked : guide .long ≡ false → (pc ≡ next → ⊥) → s .at + 8 * markedIndex img (guide .shift) marks s pc ≡ placeOf img guide marks s at next pc
+    unfolding placeOf
+    place-marked e f = rw (e, ne-eqb _ _ f)
 
   module _ {long : Bool} (y : Lies img long s) where
     -- among long records

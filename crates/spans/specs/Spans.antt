@@ -1,21 +1,32 @@
 -- Records that are fetched one after the other without a trap.
-use Prim.Native.Nat.{ℕ, _+_, _*_, _≤_, _<_}
+use Prim.Native.Nat.{ℕ, _+_, _-_, _*_, _/_, _≤_, _<_, min}
 use mathlib.Core.Path.{_≡_}
-use mathlib.Core.Bool.{Bool, true, false, cond}
+use mathlib.Core.Bool.{Bool, true, false, cond, _&&_}
 use mathlib.Core.List.{List}
 use lib.ListN.{length, getD}
+use lib.Dec.{ltb, leb, eqb}
 use Rattle.memory.specs.Memory.{Memory}
-use Rattle.registers.specs.Core.{PC}
+use Rattle.fields.specs.Psw.{PSW·PRS}
+use Rattle.fields.specs.Syscon.{SYSCON·PROTEN}
+use Rattle.events.specs.Traps.{CODE}
+use Rattle.registers.specs.Core.{PC, PSW, SYSCON}
 use Rattle.registers.specs.Registers.{pc}
 use Rattle.registers.specs.declared.Registers.{Registers}
+use Rattle.protection.specs.Range.{noRange, lowestOf}
 use Rattle.protection.specs.Access.{checkOf}
 use Rattle.protection.specs.declared.range.Range.{Range}
 use Rattle.protection.specs.declared.range.Right.the-variants.{Execute}
-use Rattle.protection.specs.declared.access.Check.the-variants.{Passes}
+use Rattle.protection.specs.declared.range.Permit.{Permit}
+use Rattle.protection.specs.declared.range.Permit.the-variants.{Unnamed, By}
+use Rattle.protection.specs.declared.access.Check.{Check}
+use Rattle.protection.specs.declared.access.Check.the-variants.{Passes, Fails}
 use Rattle.image.specs.Lengths.{addressAfter}
 use Rattle.image.specs.Table.{entryAt}
-use Rattle.image.specs.Rest.{Begins}
+use Rattle.image.specs.Rest.{bodyWalk, restOf, entryOf, Begins}
 use Rattle.image.specs.Fetch.{instructionAt, fetchOf, FieldsHold}
+use Rattle.image.specs.Marks.{markEntry, markIndex, slotOf, biasOf}
+use Rattle.image.specs.declared.marks.Guide.{Guide}
+use Rattle.image.specs.declared.fetch.InBody.{InBody}
 use Rattle.image.specs.declared.fetch.Fetched.the-variants.{Found}
 use Rattle.entries.specs.Entry.{trapOf}
 use Rattle.decisions.specs.Phases.{instructionOf}
@@ -23,11 +34,44 @@ use Rattle.spans.specs.declared.Span.{Span}
 use Rattle.spans.specs.declared.Ahead.{Ahead}
 use Rattle.spans.specs.declared.Ahead.the-variants.{Records, Traps}
 
--- of `most` records from pc on, whatever their lengths, the first n pass the fetch's check
-pub record Fetchable (core : List ℕ) (rs : List Range) (pc most n : ℕ) : Type 0 where
-  pub some : 0 < n
-  pub within : n ≤ most
-  pub passes : (a : ℕ) → pc ≤ a → a + 4 ≤ pc + 4 * n → a < 0xE000_0000 → checkOf core rs Execute a ≡ Passes
+-- how many records from pc on begin below an address, whatever their lengths: each is counted as a long one, of 4 addresses
+abbrev pub recordsBelow : ℕ → ℕ → ℕ
+recordsBelow upper pc = (upper - pc + 3) / 4
+
+-- of `most` records from pc on those below the upper bound of the range named; where none is named, the first alone
+abbrev pub fetchableBy : List Range → ℕ → ℕ → Permit → ℕ
+fetchableBy rs pc most (By k) = min (recordsBelow (getD rs k noRange .upper) pc) most
+fetchableBy rs pc most Unnamed = 1
+
+-- of `most` records from pc on, of which the first passes the fetch's check, how many surely pass it: all where protection is off; otherwise as far as the lowest range that permits the first
+unfoldable pub fetchableOf : List ℕ → List Range → ℕ → ℕ → ℕ
+fetchableOf core rs pc most =
+    cond (SYSCON·PROTEN (getD core SYSCON 0)) (fetchableBy rs pc most (lowestOf rs (PSW·PRS (getD core PSW 0)) Execute pc)) most
+
+-- the records from pc on, and the place of their body's entry: told only where the image is not known to have no short form
+abbrev pub foundOf : List ℕ → Bool → ℕ → InBody
+foundOf img long pc = record { rest = restOf img pc; entry = cond long 0 (entryOf img pc) }
+
+abbrev pub span : ℕ → ℕ → ℕ → ℕ → ℕ → ℕ → ℕ → Span
+span from n at long entry first bias =
+    record { from = from; records = n; at = at; end = at + 8 * n; long = long; entry = entry; first = first; bias = bias }
+
+-- the first n of the records from pc on. In an image that is known to have no short form all count as long, and the body is not told. Otherwise none does, and the body is told: its entry, from 1, how many of its records come before the span, and what its marks stand by
+abbrev pub spanOf : List ℕ → Bool → ℕ → ℕ → Span
+spanOf img true pc n = span pc n (restOf img pc .at) n 0 0 0
+spanOf img false pc n =
+    let e = entryAt img (entryOf img pc) in
+    span pc n (restOf img pc .at) 0 (entryOf img pc + 1) (e .records - restOf img pc .records) (biasOf e)
+
+abbrev pub aheadBy : List ℕ → Bool → List ℕ → List Range → ℕ → Check → Ahead
+aheadBy img long core rs pc (Fails t) = Traps t
+aheadBy img long core rs pc Passes =
+    let n = restOf img pc .records in
+    cond (eqb n 0) (Traps CODE) (Records (spanOf img long pc (fetchableOf core rs pc n)))
+
+-- what lies at PC: the trap of the fetch's check; 4/1 where no record begins there; otherwise the span of the records that surely pass the check
+unfoldable pub aheadOf : List ℕ → Bool → List ℕ → List Range → Ahead
+aheadOf img long core rs = let pc = getD core PC 0 in aheadBy img long core rs pc (checkOf core rs Execute pc)
 
 -- where the record with index j of the span begins
 abbrev pub begin : List ℕ → Span → ℕ → ℕ
@@ -51,15 +95,6 @@ pub record Lies (img : List ℕ) (long : Bool) (s : Span) : Type 0 where
   pub each : long ≡ true → (j : ℕ) → j ≤ s .records → begin img s j ≡ s .from + 4 * j
   pub body : long ≡ false → LiesInBody img s
 
--- the first n of the records from pc on, of which the first stands at byte `at`
-pub record Stretches (img : List ℕ) (long : Bool) (pc n at : ℕ) (s : Span) : Type 0 where
-  pub from : s .from ≡ pc
-  pub records : s .records ≡ n
-  pub at-is : s .at ≡ at
-  pub ends : s .end ≡ at + 8 * n
-  pub counted : s .long ≡ cond long n 0
-  pub body : long ≡ false → LiesInBody img s
-
 -- each record of the span is fetched at its address
 pub record SpanHolds (img : List ℕ) (long : Bool) (core : List ℕ) (rs : List Range) (s : Span) : Type 0 where
   pub passes : (j : ℕ) → j < s .records → checkOf core rs Execute (begin img s j) ≡ Passes
@@ -73,6 +108,20 @@ pub record Placed (img : List ℕ) (long : Bool) (s : Span) (k here : ℕ) : Typ
   pub inside : k < s .records
   pub at : here ≡ begin img s k
 
+-- the index of the record that begins at pc, among the span's records from the one with index k on: they are walked as the fetch is defined. Past the span where none begins there
+unfoldable pub indexOn : List ℕ → Span → ℕ → ℕ → ℕ
+indexOn img s k pc = s .records - bodyWalk (s .records - k) img (s .at + 8 * k) (begin img s k) pc .records
+
+-- a mark names a record of the span
+abbrev pub namesIn : Span → ℕ → Bool
+namesIn s m = eqb (markEntry m) (s .entry) && (leb (s .first) (markIndex m) && ltb (markIndex m) (s .first + s .records))
+
+-- the same by the mark in the place for pc, from the record on that it names. Past the span where it names none of the span
+unfoldable pub markedIndex : List ℕ → ℕ → List ℕ → Span → ℕ → ℕ
+markedIndex img shift marks s pc =
+    let m = getD marks (slotOf (s .bias) (s .entry) shift pc) 0 in
+    cond (namesIn s m) (indexOn img s (markIndex m - s .first) pc) (s .records)
+
 -- an index in the span is that of the record that begins at pc
 abbrev pub IndexIn : List ℕ → Span → ℕ → ℕ → Type 0
 IndexIn img s pc k = k < s .records → pc ≡ begin img s k
@@ -83,6 +132,11 @@ pub record Current (img : List ℕ) (s : Span) (at next : ℕ) : Type 0 where
   pub inside : index < s .records
   pub stands : at ≡ s .at + 8 * index
   pub ends : next ≡ begin img s (index + 1)
+
+-- the byte at which the record stands that begins at pc, after the one at byte `at`, which ends at `next`: the next one, or the one found by a mark. Past the span where no mark tells, and where all are long: these are found by their index
+unfoldable pub placeOf : List ℕ → Guide → List ℕ → Span → ℕ → ℕ → ℕ → ℕ
+placeOf img guide marks s at next pc =
+    cond (guide .long) (s .end) (cond (eqb pc next) (at + 8) (s .at + 8 * markedIndex img (guide .shift) marks s pc))
 
 -- a byte in the span is that at which the record stands that begins at pc
 abbrev pub PlaceIn : List ℕ → Span → ℕ → ℕ → Type 0

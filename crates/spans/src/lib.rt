@@ -19,15 +19,13 @@ use registers::PC;
 use registers::PSW;
 use registers::SYSCON;
 ghost use mathlib.Core.Path.{_≡_};
-ghost use mathlib.Core.Bool.{false};
-ghost use Prim.Native.Nat.{_+_, _*_, _≤_, _<_};
+ghost use Prim.Native.Nat.{_≤_, _<_};
 ghost use Rattle.protection.specs.Range.{rangesIn};
 ghost use Rattle.protection.specs.Access.{checkOf};
 ghost use Rattle.protection.specs.declared.access.Check.the-variants.{Passes};
 ghost use Rattle.image.specs.Records.{ImageHolds};
-ghost use Rattle.image.specs.Rest.{restOf, InEntry};
 ghost use Rattle.image.specs.Marks.{Guides};
-ghost use Rattle.spans.specs.Spans.{Fetchable, Leads, Stretches};
+ghost use Rattle.spans.specs.Spans.{recordsBelow, fetchableOf, foundOf, spanOf, aheadOf, Leads};
 
 // So many records from an address on, from a byte of the image to another, and how many of them are known to be long: all or none. Where none is, also the body's entry, from 1, the index of the span's first record in the body, and what the body's marks stand by.
 pub struct Span {
@@ -50,7 +48,7 @@ pub enum Ahead {
 // How many records from pc on begin below an address at least, whatever their lengths.
 fn records_below(upper: u32, pc: u32) -> u32
     requires { ⌜ pc < upper ⌝ }
-    ensures { λ r. ⌜ (0 < r) × (pc + 4 * r < upper + 4) ⌝ }
+    ensures { λ r. ⌜ r ≡ recordsBelow upper pc ⌝ }
 {
     (upper - pc - 1) / 4 + 1
 }
@@ -58,7 +56,7 @@ fn records_below(upper: u32, pc: u32) -> u32
 // Of so many records from pc on, how many protection lets be fetched, where it lets the first.
 fn fetchable(core: &[u32; 10], words: &[u32; 96], pc: u32, records: u32) -> u32
     requires { ⌜ (checkOf (now core) (rangesIn (now words)) Right.Execute pc ≡ Passes) × (0 < records) ⌝ }
-    ensures { λ r. ⌜ Fetchable (now (core .entry)) (rangesIn (now (words .entry))) pc records r ⌝ }
+    ensures { λ r. ⌜ r ≡ fetchableOf (now (core .entry)) (rangesIn (now (words .entry))) pc records ⌝ }
 {
     if !fields::syscon::protection(core[SYSCON]) {
         return records;
@@ -83,7 +81,7 @@ fn fetchable(core: &[u32; 10], words: &[u32; 96], pc: u32, records: u32) -> u32
 // The records from pc on, by what is known of the image.
 fn rest_guided(image: &[u8], guide: Guide, marks: &[u64], pc: u32) -> InBody
     requires { ⌜ ImageHolds (now image) × Guides (now image) guide (now marks) ⌝ }
-    ensures { λ r. ⌜ (r .rest ≡ restOf (now (image .entry)) pc) × (guide .long ≡ false → InEntry (now (image .entry)) pc r) ⌝ }
+    ensures { λ r. ⌜ r ≡ foundOf (now (image .entry)) (guide .long) pc ⌝ }
 {
     if guide.long {
         return InBody {
@@ -96,8 +94,8 @@ fn rest_guided(image: &[u8], guide: Guide, marks: &[u64], pc: u32) -> InBody
 
 // The first n of the records from pc on.
 fn span_of(image: &[u8], long: bool, found: InBody, pc: u32, n: u32) -> Span
-    requires { ⌜ ImageHolds (now image) × (found .rest ≡ restOf (now image) pc) × (long ≡ false → InEntry (now image) pc found) × (0 < found .rest .records) × (n ≤ found .rest .records) ⌝ }
-    ensures { λ r. ⌜ Stretches (now (image .entry)) long pc n (found .rest .at) r ⌝ }
+    requires { ⌜ ImageHolds (now image) × (found ≡ foundOf (now image) long pc) × (0 < found .rest .records) × (n ≤ found .rest .records) ⌝ }
+    ensures { λ r. ⌜ r ≡ spanOf (now (image .entry)) long pc n ⌝ }
 {
     let rest = found.rest;
     if long {
@@ -134,6 +132,7 @@ pub fn look_ahead(
     words: &[u32; 96],
 ) -> Ahead
     requires { ⌜ ImageHolds (now image) × Guides (now image) guide (now marks) ⌝ }
+    ensures { λ r. ⌜ r ≡ aheadOf (now (image .entry)) (guide .long) (now (core .entry)) (rangesIn (now (words .entry))) ⌝ }
     ensures { λ r. ⌜ Leads (now (image .entry)) (guide .long) (now (core .entry)) (rangesIn (now (words .entry))) r ⌝ }
 {
     let pc = core[PC];

@@ -1,14 +1,17 @@
 -- `spans::fetchable` meets its contract. Assumes nothing.
 use borrow.Author.Needs.{needs}
-use mathlib.Core.Path.{sym, _∙_}
+use mathlib.Core.Path.{_≡_, sym, _∙_}
 use native.Mathlib.Omega.{arith}
 use borrow.Author.Tests.{not-true, not-false}
-use Rattle.spans.proofs.Spans.{all-unasked, the-first, by-range, range-below, upper-is, below-bound}
+use Rattle.protection.specs.Range.{rangesIn}
+use Rattle.protection.specs.declared.range.Permit.the-variants.{By}
+use Rattle.spans.specs.Spans.{fetchableBy}
+use Rattle.spans.proofs.Spans.{fetch-all, fetch-by, range-below, upper-is, below-bound}
 use Rattle.spans.proofs.fetchable.Statement.{statement}
 use Rattle.spans.proofs.fetchable.Tie as tie
 
 returns : tie.Need-returns
-returns c = all-unasked _ _ _ _ (c .before .before .before .pre .1) (sym (c .before .protection .ensures) ∙ not-true _ (c .if1 .taken))
+returns c = fetch-all _ _ _ _ (sym (c .before .protection .ensures) ∙ not-true _ (c .if1 .taken))
 
 mul-records-below : tie.Need-mul-records-below
 mul-records-below c = let h = range-below (c .before .before .before .before .before .before .before .before .before .args .words .now) (c .before .before .before .before .before .before .before .before .before .args .core .now) _ _ ((rw (c .before .before .before .before .protection-set .ensures .0) at (rw (c .before .k .given .1) at (c .before .before .before .search .ensures .1 .says))) .one) in omega arith
@@ -26,13 +29,29 @@ records-below-requires : tie.Need-records-below-requires
 records-below-requires c κs = below-bound (c .before .before .before .before .before .before .before .before .before .before .args .words .now) (c .before .before .before .before .before .before .before .before .before .before .args .core .now) _ _ ((rw (c .before .before .before .before .before .protection-set .ensures .0) at (rw (c .before .before .k .given .1) at (c .before .before .before .before .search .ensures .1 .says))) .one)
 
 returns-2 : tie.Need-returns-2
-returns-2 c = by-range _ _ _ _ (c .before .before .before .before .before .before .before .before .before .before .before .before .pre .1) _ _ (sym (c .before .before .before .before .before .before .before .before .before .before .protection .ensures) ∙ not-false _ (c .before .before .before .before .before .before .before .before .before .if1 .left)) ((rw (c .before .before .before .before .before .before .before .protection-set .ensures .0) at (rw (c .before .before .before .before .k .given .1) at (c .before .before .before .before .before .before .search .ensures .1 .says))) .one) (c .before .records-below .ensures .0) (omega (arith, c .if2 .taken)) (omega (arith, c .before .records-below .ensures .1, upper-is (c .before .before .before .before .before .before .before .before .before .before .before .before .args .words .now) (c .before .before .before .before .before .before .before .before .before .before .before .before .args .core .now) _ _ ((rw (c .before .before .before .before .before .before .before .protection-set .ensures .0) at (rw (c .before .before .before .before .k .given .1) at (c .before .before .before .before .before .before .search .ensures .1 .says))) .one)))
+returns-2 c =
+    let a = c .before .before .before .before .before .before .before .before .before .before .before .before .args in
+    let s = c .before .before .before .before .before .before .search in
+    let q = c .before .before .before .before .before .before .before .protection-set .ensures .0 in
+    let k = c .before .before .before .before .k .given in
+    let u = upper-is (a .words .now) (a .core .now) _ _ ((rw q at (rw (k .1) at (s .ensures .1 .says))) .one) in
+    let m = c .before .records-below .ensures in
+    let b : c .before .records-below .result ≡ fetchableBy (rangesIn (a .words .now)) (a .pc) (a .records) (By (k .0 .0)) = omega (arith, c .if2 .taken) in
+    b ∙ fetch-by _ _ _ _ _ (sym (c .before .before .before .before .before .before .before .before .before .before .protection .ensures) ∙ not-false _ (c .before .before .before .before .before .before .before .before .before .if1 .left)) (sym (k .1) ∙ (rw q at (s .ensures .0)))
 
 returns-3 : tie.Need-returns-3
-returns-3 c = the-first _ _ _ _ (c .before .before .before .before .before .before .before .before .pre .1) (c .before .before .before .before .before .before .before .before .pre .0)
+returns-3 c = fetch-by _ _ _ _ _ (sym (c .before .before .before .before .before .before .protection .ensures) ∙ not-false _ (c .before .before .before .before .before .if1 .left)) (sym (c .enum-told .given .1) ∙ (rw (c .before .before .before .protection-set .ensures .0) at (c .before .before .search .ensures .0)))
 
 returns-4 : tie.Need-returns-4
-returns-4 c = by-range _ _ _ _ (c .before .before .before .before .before .before .before .before .before .before .before .before .pre .1) _ _ (sym (c .before .before .before .before .before .before .before .before .before .before .protection .ensures) ∙ not-false _ (c .before .before .before .before .before .before .before .before .before .if1 .left)) ((rw (c .before .before .before .before .before .before .before .protection-set .ensures .0) at (rw (c .before .before .before .before .k .given .1) at (c .before .before .before .before .before .before .search .ensures .1 .says))) .one) (c .before .before .before .before .before .before .before .before .before .before .before .before .pre .1) (omega arith) (omega (arith, c .if2 .left, c .before .records-below .ensures .1, upper-is (c .before .before .before .before .before .before .before .before .before .before .before .before .args .words .now) (c .before .before .before .before .before .before .before .before .before .before .before .before .args .core .now) _ _ ((rw (c .before .before .before .before .before .before .before .protection-set .ensures .0) at (rw (c .before .before .before .before .k .given .1) at (c .before .before .before .before .before .before .search .ensures .1 .says))) .one)))
+returns-4 c =
+    let a = c .before .before .before .before .before .before .before .before .before .before .before .before .args in
+    let s = c .before .before .before .before .before .before .search in
+    let q = c .before .before .before .before .before .before .before .protection-set .ensures .0 in
+    let k = c .before .before .before .before .k .given in
+    let u = upper-is (a .words .now) (a .core .now) _ _ ((rw q at (rw (k .1) at (s .ensures .1 .says))) .one) in
+    let m = c .before .records-below .ensures in
+    let b : c .before .before .before .before .before .before .before .before .before .before .before .before .args .records ≡ fetchableBy (rangesIn (a .words .now)) (a .pc) (a .records) (By (k .0 .0)) = omega (arith, c .if2 .left) in
+    b ∙ fetch-by _ _ _ _ _ (sym (c .before .before .before .before .before .before .before .before .before .before .protection .ensures) ∙ not-false _ (c .before .before .before .before .before .before .before .before .before .if1 .left)) (sym (k .1) ∙ (rw q at (s .ensures .0)))
 
 pub fetchable-spec : {M : Type 1} → statement M
 fetchable-spec =

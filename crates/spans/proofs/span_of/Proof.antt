@@ -1,7 +1,5 @@
 -- `spans::span_of` meets its contract. Assumes nothing.
 use native.Mathlib.Omega.{arith}
-use mathlib.Core.Path.{refl, sym, _∙_}
-use Rattle.words.proofs.Truth.{never}
 use Rattle.image.proofs.Images.{image-right}
 use Rattle.spans.proofs.Spans.{in-body, rest-ends}
 use borrow.Author.Needs.{needs}
@@ -14,10 +12,10 @@ mul-t10 c = search needs
 add-t11 : tie.Need-add-t11
 add-t11 c =
     let p = c .before .before .before .before .pre in
-    omega (arith, rest-ends (c .before .before .before .before .args .image .now) (image-right (c .before .before .before .before .args .image .now) (p .0)) (c .before .before .before .before .args .pc) (c .before .before .before .before .args .found) (p .1) (p .3), p .4, c .before .before .before .before .good .0 .0)
+    omega (arith, rest-ends (c .before .before .before .before .args .image .now) (image-right (c .before .before .before .before .args .image .now) (p .0)) (c .before .before .before .before .args .long) (c .before .before .before .before .args .pc) (c .before .before .before .before .args .found) (p .1) (p .2), p .3, c .before .before .before .before .good .0 .0)
 
 returns : tie.Need-returns
-returns c = record { from = refl; records = refl; at-is = refl; ends = refl; counted = rw (c .before .if1 .taken); body = λ e. absurd (never (sym (c .before .if1 .taken) ∙ e)) }
+returns c = rw (c .before .before .before .before .pre .1, c .before .if1 .taken)
 
 cast-read-entry : tie.Need-cast-read-entry
 cast-read-entry c = search needs
@@ -27,7 +25,7 @@ read-entry-requires c κs =
     let p = c .before .before .before .before .pre in
     let img = c .before .before .before .before .args .image .now in
     let g = image-right img (p .0) in
-    let b = in-body img g (c .before .before .before .before .args .pc) (c .before .before .before .before .args .found) (p .1) (p .2 (c .before .if1 .left)) (p .3) in
+    let b = in-body img g (c .before .before .before .before .args .long) (c .before .before .before .before .args .pc) (c .before .before .before .before .args .found) (p .1) (p .2) (c .before .if1 .left) in
     omega (arith, g .table .counted .whole, b .0 .0)
 
 mul-t13 : tie.Need-mul-t13
@@ -36,14 +34,14 @@ mul-t13 c = search needs
 add-t14 : tie.Need-add-t14
 add-t14 c =
     let p = c .before .before .before .before .before .before .pre in
-    omega (arith, rest-ends (c .before .before .before .before .before .before .args .image .now) (image-right (c .before .before .before .before .before .before .args .image .now) (p .0)) (c .before .before .before .before .before .before .args .pc) (c .before .before .before .before .before .before .args .found) (p .1) (p .3), p .4, c .before .before .before .before .before .before .good .0 .0)
+    omega (arith, rest-ends (c .before .before .before .before .before .before .args .image .now) (image-right (c .before .before .before .before .before .before .args .image .now) (p .0)) (c .before .before .before .before .before .before .args .long) (c .before .before .before .before .before .before .args .pc) (c .before .before .before .before .before .before .args .found) (p .1) (p .2), p .3, c .before .before .before .before .before .before .good .0 .0)
 
 add-t15 : tie.Need-add-t15
 add-t15 c =
     let p = c .before .before .before .before .before .before .before .pre in
     let img = c .before .before .before .before .before .before .before .args .image .now in
     let g = image-right img (p .0) in
-    let b = in-body img g (c .before .before .before .before .before .before .before .args .pc) (c .before .before .before .before .before .before .before .args .found) (p .1) (p .2 (c .before .before .before .before .if1 .left)) (p .3) in
+    let b = in-body img g (c .before .before .before .before .before .before .before .args .long) (c .before .before .before .before .before .before .before .args .pc) (c .before .before .before .before .before .before .before .args .found) (p .1) (p .2) (c .before .before .before .before .if1 .left) in
     omega (arith, g .table .counted .most, b .0 .0)
 
 sub-t16 : tie.Need-sub-t16
@@ -51,34 +49,14 @@ sub-t16 c =
     let p = c .before .before .before .before .before .before .before .before .before .pre in
     let img = c .before .before .before .before .before .before .before .before .before .args .image .now in
     let g = image-right img (p .0) in
-    let b = in-body img g (c .before .before .before .before .before .before .before .before .before .args .pc) (c .before .before .before .before .before .before .before .before .before .args .found) (p .1) (p .2 (c .before .before .before .before .before .before .if1 .left)) (p .3) in
+    let b = in-body img g (c .before .before .before .before .before .before .before .before .before .args .long) (c .before .before .before .before .before .before .before .before .before .args .pc) (c .before .before .before .before .before .before .before .before .before .args .found) (p .1) (p .2) (c .before .before .before .before .before .before .if1 .left) in
     rw (c .before .before .before .before .read-entry .ensures) (b .2)
 
 bias-of-requires : tie.Need-bias-of-requires
 bias-of-requires c κs = search needs
 
 returns-2 : tie.Need-returns-2
-returns-2 c =
-    let p = c .before .before .before .before .before .before .before .before .before .before .pre in
-    let img = c .before .before .before .before .before .before .before .before .before .before .args .image .now in
-    let g = image-right img (p .0) in
-    let f = c .before .before .before .before .before .before .before .before .before .before .args .found in
-    let b = in-body img g (c .before .before .before .before .before .before .before .before .before .before .args .pc) f (p .1) (p .2 (c .before .before .before .before .before .before .before .if1 .left)) (p .3) in
-    record {
-      from = refl;
-      records = refl;
-      at-is = refl;
-      ends = refl;
-      counted = rw (c .before .before .before .before .before .before .before .if1 .left);
-      body = λ e.
-          record {
-            entry = f .entry;
-            is = refl;
-            begins = rw (c .before .before .before .before .before .read-entry .ensures) (b .0);
-            few = rw (c .before .before .before .before .before .read-entry .ensures) (omega (arith, g .table .entries (f .entry) (b .0 .0) .most, p .3, b .2));
-            place = rw (c .before .before .before .before .before .read-entry .ensures) (b .1);
-          };
-    }
+returns-2 c = rw (c .bias-of .ensures, c .before .before .before .before .before .read-entry .ensures, c .before .before .before .before .before .before .before .before .before .before .pre .1, c .before .before .before .before .before .before .before .if1 .left)
 
 pub span-of-spec : {M : Type 1} → statement M
 span-of-spec =

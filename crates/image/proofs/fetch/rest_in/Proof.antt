@@ -45,18 +45,18 @@ add-walk-body c = search needs
 sub-walk-body : tie.Need-sub-walk-body
 sub-walk-body c =
     let p = c .before .before .before .before .before .before .before .before .before .before .before .pre in
-    let f = few _ (image-right (c .before .before .before .before .before .before .before .before .before .before .before .args .image .now) (p .0)) _ (p .2) (c .before .before .before .before .before .before .before .before .read-entry .result) (c .before .before .before .before .before .before .before .before .read-entry .ensures) _ _ (c .before .before .before .before .start-of .ensures .0) in
+    let f = few _ (image-right (c .before .before .before .before .before .before .before .before .before .before .before .args .image .now) (p .0)) _ (p .2) (c .before .before .before .before .before .before .before .before .read-entry .result) (c .before .before .before .before .before .before .before .before .read-entry .ensures) _ _ (c .before .before .before .before .start-of .ensures .1) in
     omega (arith, f)
 
 walk-body-requires : tie.Need-walk-body-requires
 walk-body-requires c κs =
     let p = c .before .before .before .before .before .before .before .before .before .before .before .pre in
-    left _ (image-right (c .before .before .before .before .before .before .before .before .before .before .before .args .image .now) (p .0)) _ (p .2) (c .before .before .before .before .before .before .before .before .read-entry .result) (c .before .before .before .before .before .before .before .before .read-entry .ensures) _ _ (c .before .before .before .before .start-of .ensures .0)
+    left _ (image-right (c .before .before .before .before .before .before .before .before .before .before .before .args .image .now) (p .0)) _ (p .2) (c .before .before .before .before .before .before .before .before .read-entry .result) (c .before .before .before .before .before .before .before .before .read-entry .ensures) _ _ (c .before .before .before .before .start-of .ensures .1)
 
 returns-2 : tie.Need-returns-2
 returns-2 c =
     let p = c .before .before .before .before .before .before .before .before .before .before .before .before .pre in
-    c .walk-body .ensures ∙ walk-marked _ (image-right (c .before .before .before .before .before .before .before .before .before .before .before .before .args .image .now) (p .0)) _ (p .2) (c .before .before .before .before .before .before .before .before .before .read-entry .result) (c .before .before .before .before .before .before .before .before .before .read-entry .ensures) _ _ (c .before .before .before .before .before .start-of .ensures .0) _ (c .before .before .before .before .before .start-of .ensures .1)
+    c .walk-body .ensures ∙ walk-marked _ (image-right (c .before .before .before .before .before .before .before .before .before .before .before .before .args .image .now) (p .0)) _ (p .2) (c .before .before .before .before .before .before .before .before .before .read-entry .result) (c .before .before .before .before .before .before .before .before .before .read-entry .ensures) _ _ (c .before .before .before .before .before .start-of .ensures .1) _ (c .before .before .before .before .before .start-of .ensures .2)
 
 pub rest-in-spec : {M : Type 1} → statement M
 rest-in-spec =

@@ -2,7 +2,7 @@
 use native.Mathlib.Omega.{arith}
 use mathlib.Core.Path.{sym, _∙_}
 use Rattle.image.proofs.Images.{image-right}
-use Rattle.image.proofs.Marking.{first-begins}
+use Rattle.image.proofs.Marking.{first-begins, start-marked, start-past, start-other, start-unmarked}
 use borrow.Author.Needs.{needs}
 use Rattle.image.proofs.fetch.start_of.Statement.{statement}
 use Rattle.image.proofs.fetch.start_of.Tie as tie
@@ -45,22 +45,22 @@ returns : tie.Need-returns
 returns c =
     let p = c .before .before .before .before .before .before .before .before .before .before .before .before .pre in
     let m = p .1 .each _ (c .before .before .before .before .before .before .before .if1 .taken) _ (sym (c .before .before .before .before .before .mark-entry .ensures) ∙ c .before .before .before .before .if2 .taken) in
-    (rw (c .mark-address2 .ensures, c .before .mark-index .ensures) m, rw (c .mark-address2 .ensures, ← c .before .before .before .mark-address .ensures) (c .before .before .if3 .taken))
+    (rw (c .mark-address2 .ensures, c .before .mark-index .ensures) (start-marked _ _ _ _ _ _ (rw (c .before .before .before .before .before .before .before .before .before .bias-of .ensures) at (c .before .before .before .before .before .before .before .before .slot-of .ensures)) (sym (c .before .before .before .before .before .mark-entry .ensures) ∙ c .before .before .before .before .if2 .taken) (rw (← c .before .before .before .mark-address .ensures) (c .before .before .if3 .taken))), rw (c .mark-address2 .ensures, c .before .mark-index .ensures) m, rw (c .mark-address2 .ensures, ← c .before .before .before .mark-address .ensures) (c .before .before .if3 .taken))
 
 returns-2 : tie.Need-returns-2
 returns-2 c =
     let p = c .before .before .before .before .before .before .before .before .before .before .pre in
-    (first-begins _ (image-right (c .before .before .before .before .before .before .before .before .before .before .args .image .now) (p .0)) _ (p .2) _ (p .3), p .4)
+    (start-past _ _ _ _ _ _ (rw (c .before .before .before .before .before .before .before .bias-of .ensures) at (c .before .before .before .before .before .before .slot-of .ensures)) (rw (← c .before .mark-address .ensures) (c .if3 .left)), first-begins _ (image-right (c .before .before .before .before .before .before .before .before .before .before .args .image .now) (p .0)) _ (p .2) _ (p .3), p .4)
 
 returns-3 : tie.Need-returns-3
 returns-3 c =
     let p = c .before .before .before .before .before .before .before .before .pre in
-    (first-begins _ (image-right (c .before .before .before .before .before .before .before .before .args .image .now) (p .0)) _ (p .2) _ (p .3), p .4)
+    (start-other _ _ _ _ _ _ (rw (c .before .before .before .before .before .bias-of .ensures) at (c .before .before .before .before .slot-of .ensures)) (λ f. c .if2 .left (c .before .mark-entry .ensures ∙ f)), first-begins _ (image-right (c .before .before .before .before .before .before .before .before .args .image .now) (p .0)) _ (p .2) _ (p .3), p .4)
 
 returns-4 : tie.Need-returns-4
 returns-4 c =
     let p = c .before .before .before .before .before .pre in
-    (first-begins _ (image-right (c .before .before .before .before .before .args .image .now) (p .0)) _ (p .2) _ (p .3), p .4)
+    (start-unmarked _ _ _ _ _ _ (rw (c .before .before .bias-of .ensures) at (c .before .slot-of .ensures)) (c .if1 .left), first-begins _ (image-right (c .before .before .before .before .before .args .image .now) (p .0)) _ (p .2) _ (p .3), p .4)
 
 pub start-of-spec : {M : Type 1} → statement M
 start-of-spec =

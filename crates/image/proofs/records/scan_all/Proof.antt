@@ -2,18 +2,17 @@
 use borrow.Author.Needs.{needs}
 use native.Mathlib.Omega.{arith}
 use Prim.Native.Nat.{ℕ, _+_, _-_, _*_, _≤_, _<_}
-use native.Mathlib.Nat.{sub-zero}
-use mathlib.Core.Path.{_≡_, refl, sym, ap, _∙_}
+use mathlib.Core.Path.{_≡_, refl, sym, _∙_}
 use mathlib.Core.Bool.{true, not, _&&_}
 use lib.ListN.{getD}
-use Rattle.words.proofs.Truth.{both-true}
 use Rattle.memory.specs.Word.{wordAt}
 use Rattle.image.specs.Table.{bodiesOf}
-use Rattle.image.specs.Records.{totalOf, recordsFrom}
+use Rattle.image.specs.Records.{totalOf, recordsFrom, held}
 use Rattle.image.specs.Marks.{longFrom, longOnly}
 use Rattle.image.proofs.Tests.{word-record, word-short}
-use Rattle.image.proofs.Images.{right-of, sized, turn-on, turn-end}
+use Rattle.image.proofs.Images.{right-of, sized}
 use Rattle.image.proofs.Long.{pass-first, pass-on, pass-end}
+use Rattle.image.proofs.Scanning.{held-first, held-on, held-end}
 use Rattle.image.proofs.records.scan_all.Statement.{statement}
 use Rattle.image.proofs.records.scan_all.Tie as tie
 
@@ -22,7 +21,7 @@ Inv-loop image n from count hold₀ long₀ k₀ hold long k =
     (from ≡ bodiesOf image)
     × (count ≡ totalOf image)
     × (k ≤ totalOf image)
-    × (hold ≡ true → recordsFrom (totalOf image - k) image (bodiesOf image + 8 * k) k ≡ recordsFrom (totalOf image) image (bodiesOf image) 0)
+    × ((hold && held (recordsFrom (totalOf image - k) image (bodiesOf image + 8 * k) k)) ≡ held (recordsFrom (totalOf image) image (bodiesOf image) 0))
     × ((long && longFrom (totalOf image - k) image (bodiesOf image + 8 * k)) ≡ longOnly image)
 
 abbrev μ-loop : tie.MeasureT-loop
@@ -48,8 +47,7 @@ loop-holds c =
     let img = c .before .before .args .image .now in
     let s = sized img (c .before .before .pre) in
     let w = c .word-at .ensures in
-    let y : bodiesOf img + 8 * 0 ≡ bodiesOf img = omega arith in
-    (omega arith, omega arith, omega arith, λ h. rw (sub-zero, y), pass-first img true refl)
+    (omega arith, omega arith, omega arith, held-first img true refl, pass-first img true refl)
 
 mul-word-at : tie.Need-mul-word-at Inv-loop μ-loop
 mul-word-at c = let s = sized (c .before .before .before .before .args .image .now) (c .before .before .before .before .pre) in let l = c .before .loop .inv in let t = c .loop-test .taken in omega (arith, l .1)
@@ -80,13 +78,11 @@ loop-again c =
     let k : l .k < totalOf img = let t = c .before .before .before .loop-test .taken in omega (arith, l .inv .1) in
     let at = bodiesOf img + 8 * l .k in
     let w : c .before .before .word-at2 .result ≡ wordAt img at = rw (← l .inv .0) (c .before .before .word-at2 .ensures) in
-    let known : (j : ℕ) → getD img j 0 < 256 = λ j. c .before .before .before .before .before .before .shared-slice-known .given j .fits in
-    let y : bodiesOf img + 8 * (l .k + 1) ≡ bodiesOf img + 8 * l .k + 8 = omega arith in (
+    let known : (j : ℕ) → getD img j 0 < 256 = λ j. c .before .before .before .before .before .before .shared-slice-known .given j .fits in (
       l .inv .0,
       l .inv .1,
       omega arith,
-      λ h. let p = both-true (l .hold) (c .before .word-holds .result) h in
-          rw y (turn-on img at (l .k) refl k (sym (c .before .word-holds .ensures ∙ word-record img at (c .before .before .word-at2 .result) known w) ∙ p .1) ∙ l .inv .3 (p .0)),
+      rw (c .before .word-holds .ensures, word-record img at (c .before .before .word-at2 .result) known w) (held-on img (l .hold) (l .k) k) ∙ l .inv .3,
       rw (c .word-long .ensures, word-short img at (c .before .before .word-at2 .result) known w) (pass-on img (l .long) (l .k) k) ∙ l .inv .4,
     )
 
@@ -95,7 +91,7 @@ returns c =
     let img = c .before .before .before .before .args .image .now in
     let l = c .before .loop in
     let k : totalOf img ≤ l .k = let t = c .loop-test .left in omega (arith, l .inv .1) in
-    (λ h. sym (l .inv .3 h) ∙ sym (turn-end img (bodiesOf img + 8 * l .k) (l .k) refl k), sym (pass-end img (l .long) (l .k) k) ∙ l .inv .4)
+    (sym (held-end img (l .hold) (l .k) k) ∙ l .inv .3, sym (pass-end img (l .long) (l .k) k) ∙ l .inv .4)
 
 pub scan-all-spec : {M : Type 1} → statement M
 scan-all-spec =

@@ -1,5 +1,6 @@
 -- `image::records::scan_records` meets its contract. Assumes nothing.
-use mathlib.Core.Path.{sym}
+use mathlib.Core.Path.{sym, _∙_}
+use Rattle.image.proofs.Scanning.{held-is}
 use borrow.Author.Needs.{needs}
 use Rattle.image.proofs.records.scan_records.Statement.{statement}
 use Rattle.image.proofs.records.scan_records.Tie as tie
@@ -14,7 +15,7 @@ scan-all-requires : tie.Need-scan-all-requires
 scan-all-requires c κs = search needs
 
 returns-2 : tie.Need-returns-2
-returns-2 c = (sym (c .before .scan-all .ensures .0 (c .if2 .taken)), c .before .scan-all .ensures .1)
+returns-2 c = (sym (held-is _ (sym (c .before .scan-all .ensures .0) ∙ c .if2 .taken)), c .before .scan-all .ensures .1)
 
 scan-each-requires-2 : tie.Need-scan-each-requires-2
 scan-each-requires-2 c κs = search needs

@@ -1,6 +1,7 @@
 -- `spans::index::index_marked` meets its contract. Assumes nothing.
+use native.Mathlib.Omega.{arith}
 use mathlib.Core.Path.{sym, _∙_}
-use Rattle.spans.proofs.Spans.{by-mark}
+use Rattle.spans.proofs.Spans.{by-mark, marked-none, marked-other, marked-outside, marked-inside}
 use borrow.Author.Needs.{needs}
 use Rattle.spans.proofs.index.index_marked.Statement.{statement}
 use Rattle.spans.proofs.index.index_marked.Tie as tie
@@ -9,7 +10,7 @@ slot-of-requires : tie.Need-slot-of-requires
 slot-of-requires c κs = search needs
 
 returns : tie.Need-returns
-returns c = search needs
+returns c = let b = c .before .before .before .before .pre .0 .body (c .before .before .before .before .pre .1) in marked-none _ _ _ _ _ _ (c .before .slot-of .ensures) (b .entry) (b .is) (c .if1 .taken)
 
 mul-m : tie.Need-mul-m
 mul-m c = search needs
@@ -21,7 +22,7 @@ mark-entry-requires : tie.Need-mark-entry-requires
 mark-entry-requires c κs = search needs
 
 returns-2 : tie.Need-returns-2
-returns-2 c = search needs
+returns-2 c = marked-other _ _ _ _ _ _ (c .before .before .before .before .before .slot-of .ensures) (λ e. c .if2 .taken (c .before .before .mark-entry .ensures ∙ e))
 
 mark-index-requires : tie.Need-mark-index-requires
 mark-index-requires c κs = search needs
@@ -30,7 +31,7 @@ wrapping-sub-u32-requires : tie.Need-wrapping-sub-u32-requires
 wrapping-sub-u32-requires c κs = search needs
 
 returns-3 : tie.Need-returns-3
-returns-3 c = search needs
+returns-3 c = let p = c .before .before .before .before .before .before .before .before .before .before .before .before .pre in marked-outside _ _ _ _ _ _ (c .before .before .before .before .before .before .before .before .before .slot-of .ensures) _ (omega arith) (p .0 .body (p .1) .few) (p .0 .most) (c .before .before .wrapping-sub-u32 .ensures ∙ c .before .before .before .mark-index .ensures) (c .if3 .taken)
 
 mark-address-requires : tie.Need-mark-address-requires
 mark-address-requires c κs = search needs
@@ -48,7 +49,7 @@ index-on-requires c κs =
     }
 
 returns-4 : tie.Need-returns-4
-returns-4 c = search needs
+returns-4 c = let p = c .before .before .before .before .before .before .before .before .before .before .before .before .before .before .pre in c .index-on .ensures ∙ marked-inside _ _ _ _ _ _ (c .before .before .before .before .before .before .before .before .before .before .before .slot-of .ensures) _ (omega arith) (p .0 .body (p .1) .few) (p .0 .most) (c .before .before .before .before .wrapping-sub-u32 .ensures ∙ c .before .before .before .before .before .mark-index .ensures) (sym (c .before .before .before .before .before .before .before .before .mark-entry .ensures) ∙ c .before .before .before .before .before .before .if2 .left) (c .before .before .if3 .left)
 
 pub index-marked-spec : {M : Type 1} → statement M
 index-marked-spec =
