@@ -1,7 +1,6 @@
 // RET, RFE and RSLCX.
 
 use acts::How;
-use areas::link::link_of;
 use contexts::context::Half;
 use contexts::restore::Returned;
 use contexts::restore::restore;
@@ -13,7 +12,9 @@ use events::trap::NEST;
 use events::trap::Trap;
 use fields::depth::in_call;
 use fields::depth::underflows;
+use fields::link::link_of;
 use fields::pcxi;
+use memory::address::Address;
 use registers::ICR;
 use registers::PC;
 use registers::PCXI;
@@ -66,9 +67,9 @@ fn return_done(set: usize, psw: u32) -> How
 }
 
 pub fn ret(
-    base: u32,
+    base: Address,
     window: &mut [u8],
-    base2: u32,
+    base2: Address,
     window2: &mut [u8],
     d: &mut [u32; 16],
     a: &mut [u32; 16],
@@ -97,9 +98,9 @@ pub fn ret(
 }
 
 pub fn rfe(
-    base: u32,
+    base: Address,
     window: &mut [u8],
-    base2: u32,
+    base2: Address,
     window2: &mut [u8],
     d: &mut [u32; 16],
     a: &mut [u32; 16],
@@ -133,9 +134,9 @@ pub fn rfe(
 }
 
 pub fn rslcx(
-    base: u32,
+    base: Address,
     window: &mut [u8],
-    base2: u32,
+    base2: Address,
     window2: &mut [u8],
     d: &mut [u32; 16],
     a: &mut [u32; 16],
