@@ -6,6 +6,8 @@ use mathlib.Core.List.{List}
 use mathlib.Core.Logic.{_⊎_}
 use lib.ListN.{getD}
 use Rattle.fields.specs.Psw.{PSW·PRS}
+use Rattle.memory.specs.Address.{asAddress}
+use Rattle.memory.specs.declared.address.Address.{Address}
 use Rattle.registers.specs.Core.{PC, PSW, ICR}
 use Rattle.protection.specs.Range.{lowestOf, Lowest}
 use Rattle.protection.specs.Access.{checkOf, asks}
@@ -30,10 +32,10 @@ use Rattle.permits.specs.declared.Permits.{Permits}
 -- an access that a step makes: a right and an address
 pub data Access : Type 0 where
   none : Access
-  access : Right → ℕ → Access
+  access : Right → Address → Access
 
 -- a load's or a store's, at A[a] plus immediate
-abbrev pub dataBy : DataAccess → ℕ → Access
+abbrev pub dataBy : DataAccess → Address → Access
 dataBy data-access.Nothing address = none
 dataBy data-access.Read address = access Read address
 dataBy data-access.Write address = access Write address
@@ -51,11 +53,11 @@ dataChecked img a pc Passes = dataFound a (fetchOf img pc)
 
 -- that of the instruction at PC: none where the fetch traps
 abbrev pub dataAt : List ℕ → List ℕ → List ℕ → List Range → Access
-dataAt img a core rs = let pc = getD core PC 0 in dataChecked img a pc (checkOf core rs Execute pc)
+dataAt img a core rs = let pc = getD core PC 0 in dataChecked img a pc (checkOf core rs Execute (asAddress pc))
 
 -- the fetch's access, and the instruction's: none where an interrupt is taken
 abbrev pub fetchAsked : List ℕ → List ℕ → Access
-fetchAsked core xs = cond (takes (getD core ICR 0) (bestOf xs .level)) none (access Execute (getD core PC 0))
+fetchAsked core xs = cond (takes (getD core ICR 0) (bestOf xs .level)) none (access Execute (asAddress (getD core PC 0)))
 
 abbrev pub dataAsked : List ℕ → List ℕ → List ℕ → List ℕ → List Range → Access
 dataAsked img a core xs rs = cond (takes (getD core ICR 0) (bestOf xs .level)) none (dataAt img a core rs)
