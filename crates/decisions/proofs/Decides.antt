@@ -7,6 +7,7 @@ use mathlib.Core.Bool.{Bool, true, false, cond}
 use mathlib.Core.List.{List}
 use lib.ListN.{getD, length}
 use lib.Dec.{eqb}
+use Rattle.memory.specs.Address.{asAddress}
 use Rattle.memory.specs.Memory.{Memory}
 use Rattle.registers.specs.Registers.{pc, pcxi, icr}
 use Rattle.registers.specs.declared.Registers.{Registers}
@@ -128,9 +129,9 @@ module _ {img : List ℕ} (bi : Bytes img) {r : Registers} (w : Valid r) (xs : L
   one-is = by (takes (icr r) (bestOf xs .level))
     where
       by : (t : Bool) → cond t (interruptOf (bestOf xs .source) (bestOf xs .level) r m) (instructionOf img r rs m)
-          ≡ performedOf (cond t (interrupting (bestOf xs)) (checkDecides img r rs m (checkOf (r .core) rs right.Execute (pc r)))) r m
+          ≡ performedOf (cond t (interrupting (bestOf xs)) (checkDecides img r rs m (checkOf (r .core) rs right.Execute (asAddress (pc r))))) r m
       by true = refl
-      by false = checked-is (checkOf (r .core) rs right.Execute (pc r))
+      by false = checked-is (checkOf (r .core) rs right.Execute (asAddress (pc r)))
 
   fetched-sound : (f : Fetched) → DecodedBy f → DecisionSound (fetchHeads r f ≡ false) r m (fetchDecides r rs m f)
   fetched-sound Nothing o = (omega arith, trap-then CODE (pc r) (small (omega arith) (omega arith)) (w .core .each 0))
@@ -144,7 +145,7 @@ module _ {img : List ℕ} (bi : Bytes img) {r : Registers} (w : Valid r) (xs : L
   unfolding stepHeads decisionOf
   decision-sound = by (takes (icr r) (bestOf xs .level))
     where
-      by : (t : Bool) → DecisionSound (cond t false (checkHeads img r (checkOf (r .core) rs right.Execute (pc r))) ≡ false) r m
-          (cond t (interrupting (bestOf xs)) (checkDecides img r rs m (checkOf (r .core) rs right.Execute (pc r))))
+      by : (t : Bool) → DecisionSound (cond t false (checkHeads img r (checkOf (r .core) rs right.Execute (asAddress (pc r)))) ≡ false) r m
+          (cond t (interrupting (bestOf xs)) (checkDecides img r rs m (checkOf (r .core) rs right.Execute (asAddress (pc r)))))
       by true = (omega arith, interrupt-then (bestOf xs .level) (level-byte xs))
-      by false = checked-sound (checkOf (r .core) rs right.Execute (pc r)) (check-bytes (r .core) rs right.Execute (pc r))
+      by false = checked-sound (checkOf (r .core) rs right.Execute (asAddress (pc r))) (check-bytes (r .core) rs right.Execute (asAddress (pc r)))

@@ -2,6 +2,7 @@
 use Prim.Native.Nat.{ℕ}
 use mathlib.Core.Bool.{cond}
 use mathlib.Core.List.{List}
+use Rattle.memory.specs.Address.{asAddress}
 use Rattle.memory.specs.Memory.{Memory, memory}
 use Rattle.registers.specs.Registers.{registers, pc, icr}
 use Rattle.registers.specs.declared.Registers.{Registers}
@@ -78,7 +79,7 @@ interrupting b = Save (event.Interrupt (b .source)) Upper 0 (interruptEntry (b .
 -- what the step is to do
 unfoldable pub decisionOf : List ℕ → Registers → List ℕ → List Range → Memory → Decision
 decisionOf img r xs rs m =
-    cond (takes (icr r) (bestOf xs .level)) (interrupting (bestOf xs)) (checkDecides img r rs m (checkOf (r .core) rs Execute (pc r)))
+    cond (takes (icr r) (bestOf xs .level)) (interrupting (bestOf xs)) (checkDecides img r rs m (checkOf (r .core) rs Execute (asAddress (pc r))))
 
 -- a save, then the registers; an FCD entry follows where the area taken is LCX's
 abbrev pub savingOf : Event → Half → ℕ → (Registers → Registers) → Registers → Memory → MadeOf

@@ -4,6 +4,7 @@ use mathlib.Core.List.{List}
 use lib.Dec.{eqb}
 use mathlib.Core.Bool.{Bool, false, cond, _&&_, _||_}
 use Rattle.fields.specs.Psw.{isSupervisor}
+use Rattle.memory.specs.Address.{asAddress}
 use Rattle.registers.specs.Core.{PCXI, FCX}
 use Rattle.registers.specs.Registers.{pc, psw, icr}
 use Rattle.registers.specs.declared.Registers.{Registers}
@@ -63,4 +64,4 @@ checkHeads img r Passes = fetchHeads r (fetchOf img (pc r))
 
 -- the step writes a head directly
 unfoldable pub stepHeads : List ℕ → Registers → List ℕ → List Range → Bool
-stepHeads img r xs rs = cond (takes (icr r) (bestOf xs .level)) false (checkHeads img r (checkOf (r .core) rs Execute (pc r)))
+stepHeads img r xs rs = cond (takes (icr r) (bestOf xs .level)) false (checkHeads img r (checkOf (r .core) rs Execute (asAddress (pc r))))

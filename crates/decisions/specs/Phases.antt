@@ -2,6 +2,7 @@
 use Prim.Native.Nat.{ℕ}
 use mathlib.Core.Bool.{cond}
 use mathlib.Core.List.{List}
+use Rattle.memory.specs.Address.{asAddress}
 use Rattle.memory.specs.Memory.{Memory}
 use Rattle.registers.specs.Registers.{pc, icr}
 use Rattle.registers.specs.declared.Registers.{Registers}
@@ -30,7 +31,7 @@ checkedBy img r rs m (Fails t) = trapOf t (pc r) r m
 checkedBy img r rs m Passes = fetchedBy r rs m (fetchOf img (pc r))
 
 unfoldable pub instructionOf : List ℕ → Registers → List Range → Memory → MadeOf
-instructionOf img r rs m = checkedBy img r rs m (checkOf (r .core) rs Execute (pc r))
+instructionOf img r rs m = checkedBy img r rs m (checkOf (r .core) rs Execute (asAddress (pc r)))
 
 abbrev pub interrupted : Best → Registers → Memory → MadeOf
 interrupted b r m = interruptOf (b .source) (b .level) r m
