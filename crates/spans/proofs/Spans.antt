@@ -8,7 +8,9 @@ use mathlib.Core.List.{List}
 use lib.ListN.{length, getD}
 use Rattle.fields.specs.Psw.{PSW·PRS}
 use Rattle.fields.specs.Syscon.{SYSCON·PROTEN}
+use Rattle.memory.specs.Address.{asAddress}
 use Rattle.memory.specs.Memory.{Memory}
+use Rattle.memory.specs.declared.address.Address.{Address}
 use Rattle.registers.specs.Registers.{pc}
 use Rattle.registers.specs.declared.Registers.{Registers}
 use Rattle.events.specs.Traps.{CODE}
@@ -43,34 +45,34 @@ use Rattle.spans.specs.declared.Span.{Span}
 -- ---- of the records from pc on, those that protection lets be fetched
 module _ (core : List ℕ) (rs : List Range) (pc most : ℕ) (n0 : 0 < most) where
   pub all-unasked : SYSCON·PROTEN (getD core 9 0) ≡ false → Fetchable core rs pc most most
-  all-unasked p = record { some = n0; within = omega arith; passes = λ a l h b. sym (unasked core rs Execute a b p) }
+  all-unasked p = record { some = n0; within = omega arith; passes = λ a l h b. sym (unasked core rs Execute (asAddress a) b p) }
 
-  pub the-first : checkOf core rs Execute pc ≡ Passes → Fetchable core rs pc most 1
+  pub the-first : checkOf core rs Execute (asAddress pc) ≡ Passes → Fetchable core rs pc most 1
   the-first p =
       record {
         some = omega arith;
         within = n0;
-        passes = λ a l h b. let e : pc ≡ a = omega arith in subst (λ (a : ℕ). checkOf core rs Execute a ≡ Passes) e p;
+        passes = λ a l h b. let e : pc ≡ a = omega arith in subst (λ (a : ℕ). checkOf core rs Execute (asAddress a) ≡ Passes) e p;
       }
 
   -- below the upper bound of a range that permits the first
-  pub by-range : (k n : ℕ) → SYSCON·PROTEN (getD core 9 0) ≡ true → PermittedBy rs (PSW·PRS (getD core 1 0)) Execute pc k → 0 < n → n ≤ most → pc + 4 * n < getD rs k noRange .upper + 4 → Fetchable core rs pc most n
+  pub by-range : (k n : ℕ) → SYSCON·PROTEN (getD core 9 0) ≡ true → PermittedBy rs (PSW·PRS (getD core 1 0)) Execute (asAddress pc) k → 0 < n → n ≤ most → pc + 4 * n < getD rs k noRange .upper + 4 → Fetchable core rs pc most n
   by-range k n p a s w u =
       record {
         some = s;
         within = w;
-        passes = λ x l h b. sym (allowed core rs Execute x k b p (onward rs (PSW·PRS (getD core 1 0)) Execute pc k a x l (omega arith)));
+        passes = λ x l h b. sym (allowed core rs Execute (asAddress x) k b p (onward rs (PSW·PRS (getD core 1 0)) Execute (asAddress pc) k a (asAddress x) l (omega arith)));
       }
 
 -- the upper bound as the words have it
-module _ (ws core : List ℕ) (address k : ℕ) (a : PermittedBy (rangesIn ws) (PSW·PRS (getD core 1 0)) Execute address k) where
+module _ (ws core : List ℕ) (address : Address) (k : ℕ) (a : PermittedBy (rangesIn ws) (PSW·PRS (getD core 1 0)) Execute address k) where
   pub range-below : k < 32
   range-below = one-of-all (rangesIn ws) (PSW·PRS (getD core 1 0)) Execute address k (omega arith) a
 
   pub upper-is : getD ws (3 * k + 1) 0 ≡ getD (rangesIn ws) k noRange .upper
   upper-is = sym (ap (λ (g : Range). g .upper) (ranges-at ws k range-below))
 
-  pub below-bound : address < getD ws (3 * k + 1) 0
+  pub below-bound : address .0 < getD ws (3 * k + 1) 0
   below-bound = rw upper-is (below-upper (rangesIn ws) (PSW·PRS (getD core 1 0)) Execute address k a)
 
 -- ---- the span at pc
@@ -115,16 +117,16 @@ span-of {img} {core} {rs} pc n long s g p h f t =
 
 -- ---- the traps of the fetch
 module _ (img core : List ℕ) (rs : List Range) where
-  pub leads-denied : (t : Trap) → Fails t ≡ checkOf core rs Execute (getD core 0 0) → (r : Registers) (m : Memory) → r .core ≡ core → instructionOf img r rs m ≡ trapOf t (pc r) r m
+  pub leads-denied : (t : Trap) → Fails t ≡ checkOf core rs Execute (asAddress (getD core 0 0)) → (r : Registers) (m : Memory) → r .core ≡ core → instructionOf img r rs m ≡ trapOf t (pc r) r m
   unfolding instructionOf
   leads-denied t h r m e =
-      let c : checkOf (r .core) rs Execute (pc r) ≡ Fails t = subst (λ (x : List ℕ). checkOf x rs Execute (getD x 0 0) ≡ Fails t) (sym e) (sym h) in
+      let c : checkOf (r .core) rs Execute (asAddress (pc r)) ≡ Fails t = subst (λ (x : List ℕ). checkOf x rs Execute (asAddress (getD x 0 0)) ≡ Fails t) (sym e) (sym h) in
       rw c
 
-  pub leads-nothing : Passes ≡ checkOf core rs Execute (getD core 0 0) → Nothing ≡ fetchOf img (getD core 0 0) → (r : Registers) (m : Memory) → r .core ≡ core → instructionOf img r rs m ≡ trapOf CODE (pc r) r m
+  pub leads-nothing : Passes ≡ checkOf core rs Execute (asAddress (getD core 0 0)) → Nothing ≡ fetchOf img (getD core 0 0) → (r : Registers) (m : Memory) → r .core ≡ core → instructionOf img r rs m ≡ trapOf CODE (pc r) r m
   unfolding instructionOf
   leads-nothing h n r m e =
-      let c : checkOf (r .core) rs Execute (pc r) ≡ Passes = subst (λ (x : List ℕ). checkOf x rs Execute (getD x 0 0) ≡ Passes) (sym e) (sym h) in
+      let c : checkOf (r .core) rs Execute (asAddress (pc r)) ≡ Passes = subst (λ (x : List ℕ). checkOf x rs Execute (asAddress (getD x 0 0)) ≡ Passes) (sym e) (sym h) in
       let f : fetchOf img (pc r) ≡ Nothing = subst (λ (x : List ℕ). fetchOf img (getD x 0 0) ≡ Nothing) (sym e) (sym n) in
       rw (c, f)
 
@@ -133,7 +135,7 @@ module _ {img : List ℕ} (r : Registers) {rs : List Range} {long : Bool} {s : S
   pub in-span : (k : ℕ) → k < s .records → pc r ≡ begin img s k → (m : Memory) → executeOf (instructionAt img (s .at + 8 * k) (pc r)) r rs m ≡ instructionOf img r rs m
   unfolding instructionOf
   in-span k l e m =
-      let c : checkOf (r .core) rs Execute (pc r) ≡ Passes = rw e (h .passes k l) in
+      let c : checkOf (r .core) rs Execute (asAddress (pc r)) ≡ Passes = rw e (h .passes k l) in
       let f : fetchOf img (pc r) ≡ Found (instructionAt img (s .at + 8 * k) (pc r)) = rw e (h .found k l) in
       rw (c, f)
 
@@ -141,7 +143,7 @@ module _ {img : List ℕ} (r : Registers) {rs : List Range} {long : Bool} {s : S
   pub span-steady : (q : Registers) → Steady r q → SpanHolds img long (q .core) rs s
   span-steady q x =
       record {
-        passes = λ j l. same-check (r .core) rs Execute (begin img s j) (q .core) (omega (arith, h .lies .below, after-less j (s .records) img (s .at) (s .from) (omega arith))) (ap SYSCON·PROTEN (x .protection)) (x .range-set) ∙ h .passes j l;
+        passes = λ j l. same-check (r .core) rs Execute (asAddress (begin img s j)) (q .core) (omega (arith, h .lies .below, after-less j (s .records) img (s .at) (s .from) (omega arith))) (ap SYSCON·PROTEN (x .protection)) (x .range-set) ∙ h .passes j l;
         found = h .found;
         fields = h .fields;
         lies = h .lies;

@@ -4,6 +4,7 @@ use mathlib.Core.Path.{_≡_}
 use mathlib.Core.Bool.{Bool, true, false, cond}
 use mathlib.Core.List.{List}
 use lib.ListN.{length, getD}
+use Rattle.memory.specs.Address.{asAddress}
 use Rattle.memory.specs.Memory.{Memory}
 use Rattle.registers.specs.Core.{PC}
 use Rattle.registers.specs.Registers.{pc}
@@ -27,7 +28,7 @@ use Rattle.spans.specs.declared.Ahead.the-variants.{Records, Traps}
 pub record Fetchable (core : List ℕ) (rs : List Range) (pc most n : ℕ) : Type 0 where
   pub some : 0 < n
   pub within : n ≤ most
-  pub passes : (a : ℕ) → pc ≤ a → a + 4 ≤ pc + 4 * n → a < 0xE000_0000 → checkOf core rs Execute a ≡ Passes
+  pub passes : (a : ℕ) → pc ≤ a → a + 4 ≤ pc + 4 * n → a < 0xE000_0000 → checkOf core rs Execute (asAddress a) ≡ Passes
 
 -- where the record with index j of the span begins
 abbrev pub begin : List ℕ → Span → ℕ → ℕ
@@ -62,7 +63,7 @@ pub record Stretches (img : List ℕ) (long : Bool) (pc n at : ℕ) (s : Span) :
 
 -- each record of the span is fetched at its address
 pub record SpanHolds (img : List ℕ) (long : Bool) (core : List ℕ) (rs : List Range) (s : Span) : Type 0 where
-  pub passes : (j : ℕ) → j < s .records → checkOf core rs Execute (begin img s j) ≡ Passes
+  pub passes : (j : ℕ) → j < s .records → checkOf core rs Execute (asAddress (begin img s j)) ≡ Passes
   pub found : (j : ℕ) → j < s .records → fetchOf img (begin img s j) ≡ Found (instructionAt img (s .at + 8 * j) (begin img s j))
   pub fields : (j : ℕ) → j < s .records → (q : ℕ) → FieldsHold (instructionAt img (s .at + 8 * j) q)
   pub lies : Lies img long s

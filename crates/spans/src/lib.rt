@@ -10,6 +10,7 @@ use image::fetch::rest_long;
 use image::marks::Guide;
 use image::marks::bias_of;
 use image::table::read_entry;
+use memory::address::as_address;
 use protection::access::Check;
 use protection::access::check_access;
 use protection::range::Permit;
@@ -21,6 +22,7 @@ use registers::SYSCON;
 ghost use mathlib.Core.Path.{_≡_};
 ghost use mathlib.Core.Bool.{false};
 ghost use Prim.Native.Nat.{_+_, _*_, _≤_, _<_};
+ghost use Rattle.memory.specs.Address.{asAddress};
 ghost use Rattle.protection.specs.Range.{rangesIn};
 ghost use Rattle.protection.specs.Access.{checkOf};
 ghost use Rattle.protection.specs.declared.access.Check.the-variants.{Passes};
@@ -57,7 +59,7 @@ fn records_below(upper: u32, pc: u32) -> u32
 
 // Of so many records from pc on, how many protection lets be fetched, where it lets the first.
 fn fetchable(core: &[u32; 10], words: &[u32; 96], pc: u32, records: u32) -> u32
-    requires { ⌜ (checkOf (now core) (rangesIn (now words)) Right.Execute pc ≡ Passes) × (0 < records) ⌝ }
+    requires { ⌜ (checkOf (now core) (rangesIn (now words)) Right.Execute (asAddress pc) ≡ Passes) × (0 < records) ⌝ }
     ensures { λ r. ⌜ Fetchable (now (core .entry)) (rangesIn (now (words .entry))) pc records r ⌝ }
 {
     if !fields::syscon::protection(core[SYSCON]) {
@@ -67,7 +69,7 @@ fn fetchable(core: &[u32; 10], words: &[u32; 96], pc: u32, records: u32) -> u32
         words,
         fields::psw::protection_set(core[PSW]),
         Right::Execute,
-        pc,
+        as_address(pc),
     ) {
         Permit::Unnamed => 1,
         Permit::By(k) => {
@@ -137,7 +139,7 @@ pub fn look_ahead(
     ensures { λ r. ⌜ Leads (now (image .entry)) (guide .long) (now (core .entry)) (rangesIn (now (words .entry))) r ⌝ }
 {
     let pc = core[PC];
-    match check_access(core, words, Right::Execute, pc) {
+    match check_access(core, words, Right::Execute, as_address(pc)) {
         Check::Fails(t) => Ahead::Traps(t),
         Check::Passes => {
             let found = rest_guided(image, guide, marks, pc);

@@ -11,28 +11,28 @@ returns : tie.Need-returns
 returns c = all-unasked _ _ _ _ (c .before .before .before .pre .1) (sym (c .before .protection .ensures) ∙ not-true _ (c .if1 .taken))
 
 mul-records-below : tie.Need-mul-records-below
-mul-records-below c = let h = range-below (c .before .before .before .before .before .before .before .before .before .args .words .now) (c .before .before .before .before .before .before .before .before .before .args .core .now) _ _ ((rw (c .before .before .before .before .protection-set .ensures .0) at (rw (c .before .k .given .1) at (c .before .before .before .search .ensures .1 .says))) .one) in omega arith
+mul-records-below c = let h = range-below (c .before .before .before .before .before .before .before .before .before .before .args .words .now) (c .before .before .before .before .before .before .before .before .before .before .args .core .now) _ _ ((rw (c .before .before .before .before .before .protection-set .ensures .0, c .before .before .before .before .as-address .ensures) at (rw (c .before .k .given .1) at (c .before .before .before .search .ensures .1 .says))) .one) in omega arith
 
 add-records-below : tie.Need-add-records-below
-add-records-below c = let h = range-below (c .before .before .before .before .before .before .before .before .before .args .words .now) (c .before .before .before .before .before .before .before .before .before .args .core .now) _ _ ((rw (c .before .before .before .before .protection-set .ensures .0) at (rw (c .before .k .given .1) at (c .before .before .before .search .ensures .1 .says))) .one) in omega arith
+add-records-below c = let h = range-below (c .before .before .before .before .before .before .before .before .before .before .args .words .now) (c .before .before .before .before .before .before .before .before .before .before .args .core .now) _ _ ((rw (c .before .before .before .before .before .protection-set .ensures .0, c .before .before .before .before .as-address .ensures) at (rw (c .before .k .given .1) at (c .before .before .before .search .ensures .1 .says))) .one) in omega arith
 
 mul-records-below-2 : tie.Need-mul-records-below-2
-mul-records-below-2 c = let h = range-below (c .before .before .before .before .before .before .before .before .before .args .words .now) (c .before .before .before .before .before .before .before .before .before .args .core .now) _ _ ((rw (c .before .before .before .before .protection-set .ensures .0) at (rw (c .before .k .given .1) at (c .before .before .before .search .ensures .1 .says))) .one) in omega arith
+mul-records-below-2 c = let h = range-below (c .before .before .before .before .before .before .before .before .before .before .args .words .now) (c .before .before .before .before .before .before .before .before .before .before .args .core .now) _ _ ((rw (c .before .before .before .before .before .protection-set .ensures .0, c .before .before .before .before .as-address .ensures) at (rw (c .before .k .given .1) at (c .before .before .before .search .ensures .1 .says))) .one) in omega arith
 
 element-copy-out-records-below : tie.Need-element-copy-out-records-below
-element-copy-out-records-below c = let h = range-below (c .before .before .before .before .before .before .before .before .before .args .words .now) (c .before .before .before .before .before .before .before .before .before .args .core .now) _ _ ((rw (c .before .before .before .before .protection-set .ensures .0) at (rw (c .before .k .given .1) at (c .before .before .before .search .ensures .1 .says))) .one) in omega arith
+element-copy-out-records-below c = let h = range-below (c .before .before .before .before .before .before .before .before .before .before .args .words .now) (c .before .before .before .before .before .before .before .before .before .before .args .core .now) _ _ ((rw (c .before .before .before .before .before .protection-set .ensures .0, c .before .before .before .before .as-address .ensures) at (rw (c .before .k .given .1) at (c .before .before .before .search .ensures .1 .says))) .one) in omega arith
 
 records-below-requires : tie.Need-records-below-requires
-records-below-requires c κs = below-bound (c .before .before .before .before .before .before .before .before .before .before .args .words .now) (c .before .before .before .before .before .before .before .before .before .before .args .core .now) _ _ ((rw (c .before .before .before .before .before .protection-set .ensures .0) at (rw (c .before .before .k .given .1) at (c .before .before .before .before .search .ensures .1 .says))) .one)
+records-below-requires c κs = below-bound (c .before .before .before .before .before .before .before .before .before .before .before .args .words .now) (c .before .before .before .before .before .before .before .before .before .before .before .args .core .now) _ _ ((rw (c .before .before .before .before .before .before .protection-set .ensures .0, c .before .before .before .before .before .as-address .ensures) at (rw (c .before .before .k .given .1) at (c .before .before .before .before .search .ensures .1 .says))) .one)
 
 returns-2 : tie.Need-returns-2
-returns-2 c = by-range _ _ _ _ (c .before .before .before .before .before .before .before .before .before .before .before .before .pre .1) _ _ (sym (c .before .before .before .before .before .before .before .before .before .before .protection .ensures) ∙ not-false _ (c .before .before .before .before .before .before .before .before .before .if1 .left)) ((rw (c .before .before .before .before .before .before .before .protection-set .ensures .0) at (rw (c .before .before .before .before .k .given .1) at (c .before .before .before .before .before .before .search .ensures .1 .says))) .one) (c .before .records-below .ensures .0) (omega (arith, c .if2 .taken)) (omega (arith, c .before .records-below .ensures .1, upper-is (c .before .before .before .before .before .before .before .before .before .before .before .before .args .words .now) (c .before .before .before .before .before .before .before .before .before .before .before .before .args .core .now) _ _ ((rw (c .before .before .before .before .before .before .before .protection-set .ensures .0) at (rw (c .before .before .before .before .k .given .1) at (c .before .before .before .before .before .before .search .ensures .1 .says))) .one)))
+returns-2 c = by-range _ _ _ _ (c .before .before .before .before .before .before .before .before .before .before .before .before .before .pre .1) _ _ (sym (c .before .before .before .before .before .before .before .before .before .before .before .protection .ensures) ∙ not-false _ (c .before .before .before .before .before .before .before .before .before .before .if1 .left)) ((rw (c .before .before .before .before .before .before .before .before .protection-set .ensures .0, c .before .before .before .before .before .before .before .as-address .ensures) at (rw (c .before .before .before .before .k .given .1) at (c .before .before .before .before .before .before .search .ensures .1 .says))) .one) (c .before .records-below .ensures .0) (omega (arith, c .if2 .taken)) (omega (arith, c .before .records-below .ensures .1, upper-is (c .before .before .before .before .before .before .before .before .before .before .before .before .before .args .words .now) (c .before .before .before .before .before .before .before .before .before .before .before .before .before .args .core .now) _ _ ((rw (c .before .before .before .before .before .before .before .before .protection-set .ensures .0, c .before .before .before .before .before .before .before .as-address .ensures) at (rw (c .before .before .before .before .k .given .1) at (c .before .before .before .before .before .before .search .ensures .1 .says))) .one)))
 
 returns-3 : tie.Need-returns-3
-returns-3 c = the-first _ _ _ _ (c .before .before .before .before .before .before .before .before .pre .1) (c .before .before .before .before .before .before .before .before .pre .0)
+returns-3 c = the-first _ _ _ _ (c .before .before .before .before .before .before .before .before .before .pre .1) (c .before .before .before .before .before .before .before .before .before .pre .0)
 
 returns-4 : tie.Need-returns-4
-returns-4 c = by-range _ _ _ _ (c .before .before .before .before .before .before .before .before .before .before .before .before .pre .1) _ _ (sym (c .before .before .before .before .before .before .before .before .before .before .protection .ensures) ∙ not-false _ (c .before .before .before .before .before .before .before .before .before .if1 .left)) ((rw (c .before .before .before .before .before .before .before .protection-set .ensures .0) at (rw (c .before .before .before .before .k .given .1) at (c .before .before .before .before .before .before .search .ensures .1 .says))) .one) (c .before .before .before .before .before .before .before .before .before .before .before .before .pre .1) (omega arith) (omega (arith, c .if2 .left, c .before .records-below .ensures .1, upper-is (c .before .before .before .before .before .before .before .before .before .before .before .before .args .words .now) (c .before .before .before .before .before .before .before .before .before .before .before .before .args .core .now) _ _ ((rw (c .before .before .before .before .before .before .before .protection-set .ensures .0) at (rw (c .before .before .before .before .k .given .1) at (c .before .before .before .before .before .before .search .ensures .1 .says))) .one)))
+returns-4 c = by-range _ _ _ _ (c .before .before .before .before .before .before .before .before .before .before .before .before .before .pre .1) _ _ (sym (c .before .before .before .before .before .before .before .before .before .before .before .protection .ensures) ∙ not-false _ (c .before .before .before .before .before .before .before .before .before .before .if1 .left)) ((rw (c .before .before .before .before .before .before .before .before .protection-set .ensures .0, c .before .before .before .before .before .before .before .as-address .ensures) at (rw (c .before .before .before .before .k .given .1) at (c .before .before .before .before .before .before .search .ensures .1 .says))) .one) (c .before .before .before .before .before .before .before .before .before .before .before .before .before .pre .1) (omega arith) (omega (arith, c .if2 .left, c .before .records-below .ensures .1, upper-is (c .before .before .before .before .before .before .before .before .before .before .before .before .before .args .words .now) (c .before .before .before .before .before .before .before .before .before .before .before .before .before .args .core .now) _ _ ((rw (c .before .before .before .before .before .before .before .before .protection-set .ensures .0, c .before .before .before .before .before .before .before .as-address .ensures) at (rw (c .before .before .before .before .k .given .1) at (c .before .before .before .before .before .before .search .ensures .1 .says))) .one)))
 
 pub fetchable-spec : {M : Type 1} → statement M
 fetchable-spec =
@@ -42,6 +42,7 @@ fetchable-spec =
     (λ c κs. search needs)
     returns
     (λ c. search needs)
+    (λ c κs. search needs)
     (λ c κs. search needs)
     (λ c κs. search needs)
     (λ c. search needs)

@@ -26,21 +26,21 @@ rest-guided-requires : tie.Need-rest-guided-requires
 rest-guided-requires c κs = search needs
 
 returns : tie.Need-returns
-returns c = leads-nothing _ _ _ (sym (c .before .before .before .before .enum-told .given .1) ∙ c .before .before .before .before .before .before .check-access .ensures) (fetch-none _ _ (sym (ap (λ (x : Rest). x .records) (c .before .before .before .rest-guided .ensures .0)) ∙ c .if1 .taken))
+returns c = leads-nothing _ _ _ (sym (c .before .before .before .before .enum-told .given .1) ∙ rw (c .before .before .before .before .before .before .before .as-address .ensures) at (c .before .before .before .before .before .before .check-access .ensures)) (fetch-none _ _ (sym (ap (λ (x : Rest). x .records) (c .before .before .before .rest-guided .ensures .0)) ∙ c .if1 .taken))
 
 fetchable-requires : tie.Need-fetchable-requires
-fetchable-requires c κs = (sym (c .before .before .before .before .before .before .check-access .ensures) ∙ c .before .before .before .before .enum-told .given .1, omega (arith, c .if1 .left))
+fetchable-requires c κs = (sym (rw (c .before .before .before .before .before .before .before .as-address .ensures) at (c .before .before .before .before .before .before .check-access .ensures)) ∙ c .before .before .before .before .enum-told .given .1, omega (arith, c .if1 .left))
 
 span-of-requires : tie.Need-span-of-requires
 span-of-requires c κs = search needs
 
 returns-2 : tie.Need-returns-2
-returns-2 c = leads-denied _ _ _ _ (sym (c .before .t .given .1) ∙ c .before .before .before .check-access .ensures)
+returns-2 c = leads-denied _ _ _ _ (sym (c .before .t .given .1) ∙ rw (c .before .before .before .before .as-address .ensures) at (c .before .before .before .check-access .ensures))
 
 returns-3 : tie.Need-returns-3
 returns-3 c =
-    let a = c .before .before .before .before .before .before .before .before .before .before .before .before .args in
-    let p = c .before .before .before .before .before .before .before .before .before .before .before .before .pre in
+    let a = c .before .before .before .before .before .before .before .before .before .before .before .before .before .args in
+    let p = c .before .before .before .before .before .before .before .before .before .before .before .before .before .pre in
     let e = c .before .before .before .before .before .rest-guided .ensures .0 in
     let t = rw e at (c .span-of .ensures) in (
       t .from,
@@ -53,6 +53,7 @@ look-ahead-spec =
     tie.close
     (tie.spec
     element-copy-out-pc
+    (λ c κs. search needs)
     check-access-requires
     enum-known-t
     enum-told
