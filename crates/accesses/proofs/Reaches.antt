@@ -8,6 +8,7 @@ use lib.ListN.{length}
 use native.Mathlib.Omega.{arith}
 use lib.Dec.{eqb}
 use Rattle.memory.specs.Memory.{Windows, windows}
+use Rattle.memory.specs.declared.address.Address.{Address}
 use Rattle.areas.specs.Place.{spotAt, placedAt, LiesIn, offset}
 use Rattle.areas.specs.declared.link.Spot.{Spot}
 use Rattle.areas.specs.declared.link.Place.{Place}
@@ -26,9 +27,9 @@ use Rattle.accesses.specs.declared.reach.Reach.the-variants.{At, Traps}
 never : {A : Type 0} (t : Trap) (at : ℕ) → Traps t ≡ At at → A
 never t at e = absurd (let z : _≡_ {A = ℕ} 0 1 = cc in omega arith)
 
-module _ (w : Windows) (len : ℕ) (core : List ℕ) (rs : List Range) (right : Right) (guarded : Bool) (size alignment address at : ℕ) where
+module _ (w : Windows) (len : ℕ) (core : List ℕ) (rs : List Range) (right : Right) (guarded : Bool) (size alignment : ℕ) (address : Address) (at : ℕ) where
   -- the data lies in a window
-  pub reach-found : reachOf w len core rs right guarded size alignment address ≡ At at → placedAt w len size (record { 0 = address }) ≡ place.At at
+  pub reach-found : reachOf w len core rs right guarded size alignment address ≡ At at → placedAt w len size address ≡ place.At at
   unfolding reachOf alignedReach
   reach-found = checked (checkOf core rs right address)
     where
@@ -36,17 +37,17 @@ module _ (w : Windows) (len : ℕ) (core : List ℕ) (rs : List Range) (right : 
       placed place.Outside e = never _ at e
       placed (place.At k) e = let z : k ≡ at = cc in rw z
 
-      aligned : (a : Bool) → cond a (placedReach (placedAt w len size (record { 0 = address }))) (Traps ALN) ≡ At at → placedAt w len size (record { 0 = address }) ≡ place.At at
+      aligned : (a : Bool) → cond a (placedReach (placedAt w len size address)) (Traps ALN) ≡ At at → placedAt w len size address ≡ place.At at
       aligned true e = placed _ e
       aligned false e = never _ at e
 
-      unguarded : (g : Bool) → cond g (Traps GRWP) (cond (eqb (address % alignment) 0) (placedReach (placedAt w len size (record { 0 = address }))) (Traps ALN)) ≡ At at
-          → placedAt w len size (record { 0 = address }) ≡ place.At at
+      unguarded : (g : Bool) → cond g (Traps GRWP) (cond (eqb (address .0 % alignment) 0) (placedReach (placedAt w len size address)) (Traps ALN)) ≡ At at
+          → placedAt w len size address ≡ place.At at
       unguarded true e = never _ at e
-      unguarded false e = aligned (eqb (address % alignment) 0) e
+      unguarded false e = aligned (eqb (address .0 % alignment) 0) e
 
-      checked : (c : Check) → checkedReach c (cond guarded (Traps GRWP) (cond (eqb (address % alignment) 0) (placedReach (placedAt w len size (record { 0 = address }))) (Traps ALN))) ≡ At at
-          → placedAt w len size (record { 0 = address }) ≡ place.At at
+      checked : (c : Check) → checkedReach c (cond guarded (Traps GRWP) (cond (eqb (address .0 % alignment) 0) (placedReach (placedAt w len size address)) (Traps ALN))) ≡ At at
+          → placedAt w len size address ≡ place.At at
       checked (Fails t) e = never t at e
       checked Passes e = unguarded guarded e
 
@@ -54,12 +55,12 @@ module _ (w : Windows) (len : ℕ) (core : List ℕ) (rs : List Range) (right : 
   reach-inside e = place-found _ _ _ _ _ (reach-found e)
 
 -- where the data lies: the spot that the code takes is the place that is reached
-module _ (s t : List ℕ) (b c : ℕ) (core : List ℕ) (rs : List Range) (right : Right) (guarded : Bool) (size alignment address at : ℕ) where
-  pub reach-spot : (x : Spot) → x ≡ spotAt (windows b (length s) c) (length (s ++ t)) size (record { 0 = address })
+module _ (s t : List ℕ) (b c : Address) (core : List ℕ) (rs : List Range) (right : Right) (guarded : Bool) (size alignment : ℕ) (address : Address) (at : ℕ) where
+  pub reach-spot : (x : Spot) → x ≡ spotAt (windows b (length s) c) (length (s ++ t)) size address
       → reachOf (windows b (length s) c) (length (s ++ t)) core rs right guarded size alignment address ≡ At at
       → LiesIn (length s) (length t) size x × (offset (length s) x ≡ at)
   reach-spot x e r =
-      spot-placed s t b c size (record { 0 = address }) x e at (reach-found (windows b (length s) c) (length (s ++ t)) core rs right guarded size alignment address at r)
+      spot-placed s t b c size address x e at (reach-found (windows b (length s) c) (length (s ++ t)) core rs right guarded size alignment address at r)
 
 -- bytes written at an offset that is the place
 pub put-at : (put : List ℕ → ℕ → ℕ → List ℕ) (bytes : List ℕ) {i j w : ℕ} {after : List ℕ} → after ≡ put bytes i w → i ≡ j → after ≡ put bytes j w

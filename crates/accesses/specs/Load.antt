@@ -5,23 +5,24 @@ use mathlib.Core.List.{List}
 use lib.ListN.{length, getD}
 use lib.Dec.{ltb}
 use Rattle.memory.specs.Memory.{Memory}
+use Rattle.memory.specs.declared.address.Address.{Address}
 use Rattle.memory.specs.Word.{halfAt, wordAt}
 use Rattle.operations.specs.declared.Load.{Load}
 use Rattle.operations.specs.declared.Load.the-variants.{LdB, LdBu, LdH, LdHu, LdW, LdA}
 use Rattle.image.specs.declared.fetch.Instruction.{Instruction}
-use Rattle.registers.specs.Registers.{psw, withD, withA, withPc, plusOf, guards}
+use Rattle.registers.specs.Registers.{psw, withD, withA, withPc, guards}
 use Rattle.registers.specs.declared.Registers.{Registers}
 use Rattle.protection.specs.declared.range.Range.{Range}
 use Rattle.protection.specs.declared.range.Right.the-variants.{Read}
 use Rattle.acts.specs.Acts as acts
 use Rattle.acts.specs.Acts.{Effect, Sets}
-use Rattle.accesses.specs.Reach.{reachOf}
+use Rattle.accesses.specs.Reach.{dataAddress, reachOf}
 use Rattle.accesses.specs.declared.reach.Reach.{Reach}
 use Rattle.accesses.specs.declared.reach.Reach.the-variants.{At, Traps}
 
--- A[a] plus immediate, modulo 2^32
-abbrev pub addressIn : Instruction → List ℕ → ℕ
-addressIn i a = plusOf (getD a (i .a) 0) (i .imm)
+-- A[a] plus immediate
+abbrev pub addressIn : Instruction → List ℕ → Address
+addressIn i a = dataAddress (getD a (i .a) 0) (i .imm)
 
 -- a byte and a halfword with their signs copied
 unfoldable pub extendByte : ℕ → ℕ

@@ -1,20 +1,20 @@
 // LD.B to LD.A.
 
 use crate::reach::Reach;
+use crate::reach::data_address;
 use crate::reach::reach_data;
 use acts::How;
 use areas::data::load_byte;
 use areas::data::load_half;
 use areas::data::load_word;
-use areas::link::Address;
 use areas::link::spot_at;
 use image::fetch::Instruction;
+use memory::address::Address;
 use operations::Load;
 use protection::range::Right;
 use registers::PC;
 use registers::PSW;
 use registers::guarded;
-use registers::plus;
 ghost use mathlib.Core.Path.{_≡_};
 ghost use Prim.Native.Nat.{_<_};
 ghost use Rattle.memory.specs.Memory.{lent};
@@ -65,9 +65,9 @@ fn put_data(
 
 // A load. Each operation has an arm of its own, with its size and alignment as constants.
 pub fn execute_load(
-    base: u32,
+    base: Address,
     window: &[u8],
-    base2: u32,
+    base2: Address,
     window2: &[u8],
     d: &mut [u32; 16],
     a: &mut [u32; 16],
@@ -81,7 +81,7 @@ pub fn execute_load(
 {
     let c = i.c;
     let x = i.a;
-    let address = plus(a[x], i.imm);
+    let address = data_address(a[x], i.imm);
     match op {
         Load::LdB => {
             match reach_data(
@@ -99,14 +99,7 @@ pub fn execute_load(
             ) {
                 Reach::Traps(t) => How::Trap(t),
                 Reach::At(_) => {
-                    let at = spot_at(
-                        Address(base),
-                        window,
-                        Address(base2),
-                        window2,
-                        1,
-                        Address(address),
-                    );
+                    let at = spot_at(base, window, base2, window2, 1, address);
                     put_data(
                         d,
                         a,
@@ -134,14 +127,7 @@ pub fn execute_load(
             ) {
                 Reach::Traps(t) => How::Trap(t),
                 Reach::At(_) => {
-                    let at = spot_at(
-                        Address(base),
-                        window,
-                        Address(base2),
-                        window2,
-                        1,
-                        Address(address),
-                    );
+                    let at = spot_at(base, window, base2, window2, 1, address);
                     put_data(d, a, core, c, load_byte(window, window2, at), i.next)
                 }
             }
@@ -162,14 +148,7 @@ pub fn execute_load(
             ) {
                 Reach::Traps(t) => How::Trap(t),
                 Reach::At(_) => {
-                    let at = spot_at(
-                        Address(base),
-                        window,
-                        Address(base2),
-                        window2,
-                        2,
-                        Address(address),
-                    );
+                    let at = spot_at(base, window, base2, window2, 2, address);
                     put_data(
                         d,
                         a,
@@ -197,14 +176,7 @@ pub fn execute_load(
             ) {
                 Reach::Traps(t) => How::Trap(t),
                 Reach::At(_) => {
-                    let at = spot_at(
-                        Address(base),
-                        window,
-                        Address(base2),
-                        window2,
-                        2,
-                        Address(address),
-                    );
+                    let at = spot_at(base, window, base2, window2, 2, address);
                     put_data(d, a, core, c, load_half(window, window2, at), i.next)
                 }
             }
@@ -225,14 +197,7 @@ pub fn execute_load(
             ) {
                 Reach::Traps(t) => How::Trap(t),
                 Reach::At(_) => {
-                    let at = spot_at(
-                        Address(base),
-                        window,
-                        Address(base2),
-                        window2,
-                        4,
-                        Address(address),
-                    );
+                    let at = spot_at(base, window, base2, window2, 4, address);
                     put_data(d, a, core, c, load_word(window, window2, at), i.next)
                 }
             }
@@ -254,14 +219,7 @@ pub fn execute_load(
             ) {
                 Reach::Traps(t) => How::Trap(t),
                 Reach::At(_) => {
-                    let at = spot_at(
-                        Address(base),
-                        window,
-                        Address(base2),
-                        window2,
-                        4,
-                        Address(address),
-                    );
+                    let at = spot_at(base, window, base2, window2, 4, address);
                     a[c] = load_word(window, window2, at);
                     core[PC] = i.next;
                     How::Done

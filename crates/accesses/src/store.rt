@@ -1,18 +1,18 @@
 // ST.B to ST.A.
 
 use crate::reach::Reach;
+use crate::reach::data_address;
 use crate::reach::reach_data;
 use acts::How;
 use areas::data::store_byte;
 use areas::data::store_half;
 use areas::data::store_word;
-use areas::link::Address;
 use areas::link::spot_at;
 use image::fetch::Instruction;
+use memory::address::Address;
 use operations::Store;
 use protection::range::Right;
 use registers::PC;
-use registers::plus;
 ghost use mathlib.Core.Path.{_≡_};
 ghost use Rattle.memory.specs.Memory.{lent};
 ghost use Rattle.registers.specs.Registers.{registers};
@@ -23,9 +23,9 @@ ghost use Rattle.accesses.specs.Store.{storeOf};
 
 // A store. Each operation has an arm of its own, with its size and alignment as constants.
 pub fn execute_store(
-    base: u32,
+    base: Address,
     window: &mut [u8],
-    base2: u32,
+    base2: Address,
     window2: &mut [u8],
     d: &mut [u32; 16],
     a: &mut [u32; 16],
@@ -39,7 +39,7 @@ pub fn execute_store(
 {
     let c = i.c;
     let x = i.a;
-    let address = plus(a[x], i.imm);
+    let address = data_address(a[x], i.imm);
     match op {
         Store::StB => {
             match reach_data(
@@ -57,14 +57,7 @@ pub fn execute_store(
             ) {
                 Reach::Traps(t) => How::Trap(t),
                 Reach::At(_) => {
-                    let at = spot_at(
-                        Address(base),
-                        window,
-                        Address(base2),
-                        window2,
-                        1,
-                        Address(address),
-                    );
+                    let at = spot_at(base, window, base2, window2, 1, address);
                     store_byte(window, window2, at, d[c]);
                     core[PC] = i.next;
                     How::Done
@@ -87,14 +80,7 @@ pub fn execute_store(
             ) {
                 Reach::Traps(t) => How::Trap(t),
                 Reach::At(_) => {
-                    let at = spot_at(
-                        Address(base),
-                        window,
-                        Address(base2),
-                        window2,
-                        2,
-                        Address(address),
-                    );
+                    let at = spot_at(base, window, base2, window2, 2, address);
                     store_half(window, window2, at, d[c]);
                     core[PC] = i.next;
                     How::Done
@@ -117,14 +103,7 @@ pub fn execute_store(
             ) {
                 Reach::Traps(t) => How::Trap(t),
                 Reach::At(_) => {
-                    let at = spot_at(
-                        Address(base),
-                        window,
-                        Address(base2),
-                        window2,
-                        4,
-                        Address(address),
-                    );
+                    let at = spot_at(base, window, base2, window2, 4, address);
                     store_word(window, window2, at, d[c]);
                     core[PC] = i.next;
                     How::Done
@@ -147,14 +126,7 @@ pub fn execute_store(
             ) {
                 Reach::Traps(t) => How::Trap(t),
                 Reach::At(_) => {
-                    let at = spot_at(
-                        Address(base),
-                        window,
-                        Address(base2),
-                        window2,
-                        4,
-                        Address(address),
-                    );
+                    let at = spot_at(base, window, base2, window2, 4, address);
                     store_word(window, window2, at, a[c]);
                     core[PC] = i.next;
                     How::Done

@@ -10,7 +10,7 @@ use lib.Dec.{eqb}
 use lib.Seq.{getD-set-other}
 use Rattle.memory.specs.Memory.{Memory}
 use Rattle.memory.specs.Word.{wordAt}
-use Rattle.areas.specs.Link.{linkOf}
+use Rattle.fields.specs.Link.{linkOf}
 use Rattle.areas.specs.Place.{placeOf}
 use Rattle.areas.specs.declared.link.Place.{Place}
 use Rattle.areas.specs.declared.link.Place.the-variants as place
@@ -40,11 +40,11 @@ module _ (half : Half) (words core : List ℕ) (m : Memory) (k : ℕ) (n2 : k �
 
   at-other : (at : ℕ) → getD (saveAtOf half words at core m .core) k 0 ≡ getD core k 0
   unfolding saveAtOf
-  at-other at = saved-other at (foreseenOf core m (wordAt (m .bytes) at))
+  at-other at = saved-other at (foreseenOf core m (linkOf (wordAt (m .bytes) at)))
 
   save-other : getD (saveOf half words core m .core) k 0 ≡ getD core k 0
   unfolding saveOf
-  save-other = by (roomOf m (getD core 3 0))
+  save-other = by (roomOf m (linkOf (getD core 3 0)))
     where
       by : (s : Room) → getD (saveBy half words core m s .core) k 0 ≡ getD core k 0
       by (room.Stops s) = refl

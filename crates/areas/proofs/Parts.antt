@@ -12,10 +12,11 @@ use Rattle.memory.specs.Word.{wordAt, putWord, putWords}
 use Rattle.memory.proofs.Words.{putWords-length}
 use Rattle.memory.proofs.Joined.{set-append-add, first-put-word, add-word, first-put-words, add-words}
 use Rattle.memory.specs.Memory.{Memory, lent}
-use Rattle.areas.specs.Link.{addressOf}
+use Rattle.memory.specs.declared.address.Address.{Address}
+use Rattle.areas.specs.Link.{areaAddress}
 use Rattle.areas.specs.Place.{spotOf, placeOf, offset}
 use Rattle.areas.specs.Area.{areaAt, areaBy, areaOf}
-use Rattle.areas.specs.declared.link.Link.{Link}
+use Rattle.fields.specs.declared.link.Link.{Link}
 use Rattle.areas.specs.declared.link.Place.the-variants.{At}
 use Rattle.areas.specs.declared.link.Spot.{Spot}
 use Rattle.areas.specs.declared.link.Spot.the-variants.{First, Second, Neither}
@@ -33,19 +34,19 @@ second-area : (s t : List ℕ) (at : ℕ) → areaAt t at ≡ areaAt (s ++ t) (l
 second-area s t at = sym (ap (take 64) (drop-append-add s t at))
 
 -- the part that the code takes is the area that the link names
-module _ (s t : List ℕ) (b c : ℕ) (l : Link) where
+module _ (s t : List ℕ) (b c : Address) (l : Link) where
   pub first-is : (at : ℕ) → First at ≡ spotOf (lent b s c t) l → areaAt s at ≡ areaOf (lent b s c t) l
   unfolding areaOf
   first-is at e =
-      first-area s t at (lies-first s t b c 64 (addressOf l) at e) ∙ ap (areaBy (s ++ t)) (place-of-spot s t b c 64 (addressOf l) (First at) e)
+      first-area s t at (lies-first s t b c 64 (areaAddress l) at e) ∙ ap (areaBy (s ++ t)) (place-of-spot s t b c 64 (areaAddress l) (First at) e)
 
   pub second-is : (at : ℕ) → Second at ≡ spotOf (lent b s c t) l → areaAt t at ≡ areaOf (lent b s c t) l
   unfolding areaOf
-  second-is at e = second-area s t at ∙ ap (areaBy (s ++ t)) (place-of-spot s t b c 64 (addressOf l) (Second at) e)
+  second-is at e = second-area s t at ∙ ap (areaBy (s ++ t)) (place-of-spot s t b c 64 (areaAddress l) (Second at) e)
 
   pub neither-is : Neither ≡ spotOf (lent b s c t) l → [] ≡ areaOf (lent b s c t) l
   unfolding areaOf
-  neither-is e = ap (areaBy (s ++ t)) (place-of-spot s t b c 64 (addressOf l) Neither e)
+  neither-is e = ap (areaBy (s ++ t)) (place-of-spot s t b c 64 (areaAddress l) Neither e)
 
 -- an area that has a place: the bytes there
 pub area-placed : (m : Memory) (l : Link) (at : ℕ) → placeOf m l ≡ At at → areaOf m l ≡ areaAt (m .bytes) at
@@ -58,7 +59,7 @@ area-length s at h = length-take-le 64 (drop at s) (simp length-drop (omega arit
 
 pub area-64 : (m : Memory) (l : Link) (at : ℕ) → placeOf m l ≡ At at → length (areaOf m l) ≡ 64
 area-64 m l at p =
-    ap length (area-placed m l at p) ∙ area-length (m .bytes) at (placed-at (m .windows) (length (m .bytes)) (addressOf l) at p .inside)
+    ap length (area-placed m l at p) ∙ area-length (m .bytes) at (placed-at (m .windows) (length (m .bytes)) (areaAddress l) at p .inside)
 
 area-byte : (s : List ℕ) (at i : ℕ) → i < 64 → getD (areaAt s at) i 0 ≡ getD s (at + i) 0
 area-byte s at i h = rw (getD-take, getD-drop)

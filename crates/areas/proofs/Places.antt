@@ -13,10 +13,10 @@ use lib.Dec.{ltb}
 use borrow.Author.Tests.{ltb-false}
 use Rattle.memory.specs.Memory.{Windows, windows, lent, firstLength, secondLength}
 use Rattle.memory.proofs.Joined.{first-length, second-length}
-use Rattle.areas.specs.Link.{addressOf}
+use Rattle.areas.specs.Link.{areaAddress}
 use Rattle.areas.specs.Place.{placedIn, eitherSpot, spotAt, joinedPlace, placedAt, placed, spotOf, placeOf, LiesIn, offset}
-use Rattle.areas.specs.declared.link.Link.{Link}
-use Rattle.areas.specs.declared.link.Address.{Address}
+use Rattle.fields.specs.declared.link.Link.{Link}
+use Rattle.memory.specs.declared.address.Address.{Address}
 use Rattle.areas.specs.declared.link.Place.{Place}
 use Rattle.areas.specs.declared.link.Place.the-variants.{At, Outside}
 use Rattle.areas.specs.declared.link.Spot.{Spot}
@@ -40,17 +40,17 @@ picked false true n at e = absurd (never-at e)
 picked false false n at e = (refl, refl, cc)
 
 -- a place that is found in a window
-pub record FoundIn (base len size : ℕ) (a : Address) (at : ℕ) : Type 0 where
-  pub above : base ≤ a .0
-  pub is : at + base ≡ a .0
+pub record FoundIn (base : Address) (len size : ℕ) (a : Address) (at : ℕ) : Type 0 where
+  pub above : base .0 ≤ a .0
+  pub is : at + base .0 ≡ a .0
   pub inside : at + size ≤ len
 
-pub found-in : (base len size : ℕ) (a : Address) (at : ℕ) → placedIn base len size a ≡ At at → FoundIn base len size a at
+pub found-in : (base : Address) (len size : ℕ) (a : Address) (at : ℕ) → placedIn base len size a ≡ At at → FoundIn base len size a at
 unfolding placedIn
 found-in base len size a at e =
-    let r = picked (ltb (a .0) base) (ltb len (a .0 - base + size)) (a .0 - base) at e in
-    let t = ltb-false (a .0) base (r .0) in
-    let u = ltb-false len (a .0 - base + size) (r .1) in
+    let r = picked (ltb (a .0) (base .0)) (ltb len (a .0 - base .0 + size)) (a .0 - base .0) at e in
+    let t = ltb-false (a .0) (base .0) (r .0) in
+    let u = ltb-false len (a .0 - base .0 + size) (r .1) in
     record { above = t; is = omega arith; inside = omega arith }
 
 -- and in one of the two
@@ -69,7 +69,7 @@ found w len size a at = by (placedIn (w .first) (firstLength w len) size a) refl
     by Outside e Outside f g = absurd (never-at g)
 
 -- the cases of the search, as the code has them
-module _ (s t : List ℕ) (base base2 size : ℕ) (a : Address) where
+module _ (s t : List ℕ) (base base2 : Address) (size : ℕ) (a : Address) where
   pub spot-first : (at : ℕ) → placedIn base (length s) size a ≡ At at → First at ≡ spotAt (windows base (length s) base2) (length (s ++ t)) size a
   unfolding spotAt
   spot-first at e = rw (first-length s t base base2, e)
@@ -137,9 +137,9 @@ module _ (s t : List ℕ) (base base2 size : ℕ) (a : Address) where
       by (Second k) e g = (lies-second k e .0, cc)
       by Neither e g = absurd (never-at g)
 
-pub spot-at-place : (s t : List ℕ) (b c : ℕ) (l : Link) (x : Spot) → x ≡ spotOf (lent b s c t) l → (at : ℕ) → placeOf (lent b s c t) l ≡ At at
+pub spot-at-place : (s t : List ℕ) (b c : Address) (l : Link) (x : Spot) → x ≡ spotOf (lent b s c t) l → (at : ℕ) → placeOf (lent b s c t) l ≡ At at
     → LiesIn (length s) (length t) 64 x × (offset (length s) x ≡ at)
-spot-at-place s t b c l x e at p = spot-placed s t b c 64 (addressOf l) x e at p
+spot-at-place s t b c l x e at p = spot-placed s t b c 64 (areaAddress l) x e at p
 
 -- some bytes from byte `at` on, of len, lie wholly in one window: before byte `split`, or from there on
 pub record Within (split len at size : ℕ) : Type 0 where
@@ -167,8 +167,8 @@ same-area h l h' l' hl hl' a b =
 same-link : (n k : ℕ) → n < 2 ^ 20 → k < 2 ^ 20 → n / 2 ^ 16 % 16 ≡ k / 2 ^ 16 % 16 → n % 2 ^ 16 ≡ k % 2 ^ 16 → n ≡ k
 same-link n k hn hk p q = omega arith
 
-apart-in : (base len : ℕ) (l k : Link) (at bt : ℕ) → l .0 < 2 ^ 20 → k .0 < 2 ^ 20 → (l .0 ≡ k .0 → ⊥)
-    → FoundIn base len 64 (addressOf l) at → FoundIn base len 64 (addressOf k) bt → (at + 64 ≤ bt) ⊎ (bt + 64 ≤ at)
+apart-in : (base : Address) (len : ℕ) (l k : Link) (at bt : ℕ) → l .0 < 2 ^ 20 → k .0 < 2 ^ 20 → (l .0 ≡ k .0 → ⊥)
+    → FoundIn base len 64 (areaAddress l) at → FoundIn base len 64 (areaAddress k) bt → (at + 64 ≤ bt) ⊎ (bt + 64 ≤ at)
 apart-in base len l k at bt hl hk ne u v = either (decLe (at + 64) bt) (decLe (bt + 64) at)
   where
     either : Dec (at + 64 ≤ bt) → Dec (bt + 64 ≤ at) → (at + 64 ≤ bt) ⊎ (bt + 64 ≤ at)
@@ -184,10 +184,10 @@ apart-in base len l k at bt hl hk ne u v = either (decLe (at + 64) bt) (decLe (b
 
 -- in different windows they are apart as the windows are
 pub apart : (w : Windows) (len : ℕ) (l k : Link) (at bt : ℕ) → l .0 < 2 ^ 20 → k .0 < 2 ^ 20 → (l .0 ≡ k .0 → ⊥)
-    → placed w len (addressOf l) ≡ At at → placed w len (addressOf k) ≡ At bt → (at + 64 ≤ bt) ⊎ (bt + 64 ≤ at)
-apart w len l k at bt hl hk ne p q = by (found w len 64 (addressOf l) at p) (found w len 64 (addressOf k) bt q)
+    → placed w len (areaAddress l) ≡ At at → placed w len (areaAddress k) ≡ At bt → (at + 64 ≤ bt) ⊎ (bt + 64 ≤ at)
+apart w len l k at bt hl hk ne p q = by (found w len 64 (areaAddress l) at p) (found w len 64 (areaAddress k) bt q)
   where
-    by : Found w len 64 (addressOf l) at → Found w len 64 (addressOf k) bt → (at + 64 ≤ bt) ⊎ (bt + 64 ≤ at)
+    by : Found w len 64 (areaAddress l) at → Found w len 64 (areaAddress k) bt → (at + 64 ≤ bt) ⊎ (bt + 64 ≤ at)
     by (in-first f) (in-first g) = apart-in (w .first) (firstLength w len) l k at bt hl hk ne f g
     by (in-first f) (in-second j s g) = let i = f .inside in inl (omega arith)
     by (in-second i s f) (in-first g) = let i = g .inside in inr (omega arith)

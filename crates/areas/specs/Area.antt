@@ -4,7 +4,7 @@ use mathlib.Core.List.{List, []}
 use lib.ListN.{take, drop}
 use Rattle.memory.specs.Memory.{Memory}
 use Rattle.areas.specs.Place.{placeOf}
-use Rattle.areas.specs.declared.link.Link.{Link}
+use Rattle.fields.specs.declared.link.Link.{Link}
 use Rattle.areas.specs.declared.link.Place.{Place}
 use Rattle.areas.specs.declared.link.Place.the-variants.{At, Outside}
 

@@ -5,17 +5,18 @@ use mathlib.Core.Bool.{cond}
 use lib.ListN.{length}
 use lib.Dec.{ltb}
 use Rattle.memory.specs.Memory.{Windows, Memory, firstLength, secondLength}
-use Rattle.areas.specs.Link.{addressOf}
-use Rattle.areas.specs.declared.link.Link.{Link}
-use Rattle.areas.specs.declared.link.Address.{Address}
+use Rattle.areas.specs.Link.{areaAddress}
+use Rattle.fields.specs.declared.link.Link.{Link}
+use Rattle.memory.specs.declared.address.Address.{Address}
 use Rattle.areas.specs.declared.link.Place.{Place}
 use Rattle.areas.specs.declared.link.Place.the-variants.{At, Outside}
 use Rattle.areas.specs.declared.link.Spot.{Spot}
 use Rattle.areas.specs.declared.link.Spot.the-variants.{First, Second, Neither}
 
 -- some bytes from an address on, in one window of len bytes at base: wholly in it, or outside
-unfoldable pub placedIn : ℕ → ℕ → ℕ → Address → Place
-placedIn base len size a = cond (ltb (a .0) base) Outside (cond (ltb len (a .0 - base + size)) Outside (At (a .0 - base)))
+unfoldable pub placedIn : Address → ℕ → ℕ → Address → Place
+placedIn base len size a =
+    cond (ltb (a .0) (base .0)) Outside (cond (ltb len (a .0 - base .0 + size)) Outside (At (a .0 - base .0)))
 
 -- whichever window has them wholly: the first, the second, or neither
 abbrev pub eitherSpot : Place → Place → Spot
@@ -43,10 +44,10 @@ placed w len a = placedAt w len 64 a
 
 -- the window that has the area that a link names, and its place
 abbrev pub spotOf : Memory → Link → Spot
-spotOf m l = spotAt (m .windows) (length (m .bytes)) 64 (addressOf l)
+spotOf m l = spotAt (m .windows) (length (m .bytes)) 64 (areaAddress l)
 
 abbrev pub placeOf : Memory → Link → Place
-placeOf m l = placed (m .windows) (length (m .bytes)) (addressOf l)
+placeOf m l = placed (m .windows) (length (m .bytes)) (areaAddress l)
 
 -- one of the windows has the area
 abbrev pub Lies : Memory → Link → Type 0

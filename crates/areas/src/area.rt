@@ -1,19 +1,19 @@
 // The area that a link names: a part of whichever window has it.
 
-use crate::link::Address;
-use crate::link::Link;
 use crate::link::Spot;
-use crate::link::link_of;
 use crate::link::spot_of;
+use fields::link::Link;
+use fields::link::link_of;
+use memory::address::Address;
 use memory::put_word;
 use memory::put_words;
 use memory::word_at;
 ghost use mathlib.Core.Path.{_≡_};
 ghost use mathlib.Core.List.{_++_};
 ghost use lib.ListN.{length};
+ghost use Rattle.fields.specs.Link.{linkOf};
 ghost use Rattle.memory.specs.Memory.{lent};
 ghost use Rattle.memory.specs.Word.{wordAt, putWord, putWords};
-ghost use Rattle.areas.specs.Link.{linkOf};
 ghost use Rattle.areas.specs.Place.{Lies, LiesIn, offset};
 ghost use Rattle.areas.specs.Area.{areaOf};
 
@@ -25,7 +25,7 @@ pub fn area<'a>(
     window2: &'a [u8],
     l: Link,
 ) -> &'a [u8]
-    ensures { λ r. ⌜ now r ≡ areaOf (lent (base .0) (now (window .entry)) (base2 .0) (now (window2 .entry))) l ⌝ }
+    ensures { λ r. ⌜ now r ≡ areaOf (lent base (now (window .entry)) base2 (now (window2 .entry))) l ⌝ }
 {
     match spot_of(base, window, base2, window2, l) {
         Spot::First(at) => &window[at..at + 64],
@@ -42,8 +42,8 @@ pub fn next_link<'a>(
     window2: &'a [u8],
     l: Link,
 ) -> Link
-    requires { ⌜ Lies (lent (base .0) (now window) (base2 .0) (now window2)) l ⌝ }
-    ensures { λ r. ⌜ r ≡ linkOf (wordAt (areaOf (lent (base .0) (now (window .entry)) (base2 .0) (now (window2 .entry))) l) 0) ⌝ }
+    requires { ⌜ Lies (lent base (now window) base2 (now window2)) l ⌝ }
+    ensures { λ r. ⌜ r ≡ linkOf (wordAt (areaOf (lent base (now (window .entry)) base2 (now (window2 .entry))) l) 0) ⌝ }
 {
     link_of(word_at(area(base, window, base2, window2, l), 0))
 }

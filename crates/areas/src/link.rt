@@ -1,26 +1,17 @@
-// A link counts areas of 64 bytes, an address counts bytes. Neither is taken for the other: `address_of` is the one translation.
+// A link counts areas of 64 bytes, an address counts bytes. Neither is taken for the other: `area_address` is the one translation.
 
+use fields::link::Link;
+use memory::address::Address;
 ghost use mathlib.Core.Path.{_≡_};
 ghost use mathlib.Core.List.{_++_};
 ghost use lib.ListN.{length};
 ghost use Rattle.memory.specs.Memory.{windows, lent};
-ghost use Rattle.areas.specs.Link.{linkOf, addressOf};
+ghost use Rattle.areas.specs.Link.{areaAddress};
 ghost use Rattle.areas.specs.Place.{placedIn, spotAt, placedAt, spotOf, placeOf};
 
-pub struct Link(pub u32);
-
-pub struct Address(pub u32);
-
-// The link in a link word: its low 20 bits.
-pub fn link_of(word: u32) -> Link
-    ensures { λ r. ⌜ r ≡ linkOf word ⌝ }
-{
-    Link(word % 0x10_0000)
-}
-
-// Link bits 19:16 are address bits 31:28, link bits 15:0 are address bits 21:6.
-pub fn address_of(l: Link) -> Address
-    ensures { λ r. ⌜ r ≡ addressOf l ⌝ }
+// The address of a link's area: link bits 19:16 are address bits 31:28, link bits 15:0 are address bits 21:6.
+pub fn area_address(l: Link) -> Address
+    ensures { λ r. ⌜ r ≡ areaAddress l ⌝ }
 {
     Address(l.0 / 0x1_0000 % 16 * 0x1000_0000 + l.0 % 0x1_0000 * 64)
 }
@@ -40,7 +31,7 @@ pub enum Place {
 
 // The place of some bytes from an address on, in a window of len bytes at base.
 fn place_in(base: Address, len: usize, size: u8, a: Address) -> Place
-    ensures { λ r. ⌜ r ≡ placedIn (base .0) len size a ⌝ }
+    ensures { λ r. ⌜ r ≡ placedIn base len size a ⌝ }
 {
     let from = base.0;
     let to = a.0;
@@ -63,7 +54,7 @@ pub fn spot_at(
     size: u8,
     a: Address,
 ) -> Spot
-    ensures { λ r. ⌜ r ≡ spotAt (windows (base .0) (length (now (window .entry))) (base2 .0)) (length (now (window .entry) ++ now (window2 .entry))) size a ⌝ }
+    ensures { λ r. ⌜ r ≡ spotAt (windows base (length (now (window .entry))) base2) (length (now (window .entry) ++ now (window2 .entry))) size a ⌝ }
 {
     match place_in(base, window.len(), size, a) {
         Place::At(at) => Spot::First(at),
@@ -83,7 +74,7 @@ pub fn place_at(
     size: u8,
     a: Address,
 ) -> Place
-    ensures { λ r. ⌜ r ≡ placedAt (windows (base .0) (length (now (window .entry))) (base2 .0)) (length (now (window .entry) ++ now (window2 .entry))) size a ⌝ }
+    ensures { λ r. ⌜ r ≡ placedAt (windows base (length (now (window .entry))) base2) (length (now (window .entry) ++ now (window2 .entry))) size a ⌝ }
 {
     match spot_at(base, window, base2, window2, size, a) {
         Spot::First(at) => Place::At(at),
@@ -94,14 +85,14 @@ pub fn place_at(
 
 // Whichever window has a link's area.
 pub fn spot_of(base: Address, window: &[u8], base2: Address, window2: &[u8], l: Link) -> Spot
-    ensures { λ r. ⌜ r ≡ spotOf (lent (base .0) (now (window .entry)) (base2 .0) (now (window2 .entry))) l ⌝ }
+    ensures { λ r. ⌜ r ≡ spotOf (lent base (now (window .entry)) base2 (now (window2 .entry))) l ⌝ }
 {
-    spot_at(base, window, base2, window2, 64, address_of(l))
+    spot_at(base, window, base2, window2, 64, area_address(l))
 }
 
 // The place of a link's area.
 pub fn locate(base: Address, window: &[u8], base2: Address, window2: &[u8], l: Link) -> Place
-    ensures { λ r. ⌜ r ≡ placeOf (lent (base .0) (now (window .entry)) (base2 .0) (now (window2 .entry))) l ⌝ }
+    ensures { λ r. ⌜ r ≡ placeOf (lent base (now (window .entry)) base2 (now (window2 .entry))) l ⌝ }
 {
-    place_at(base, window, base2, window2, 64, address_of(l))
+    place_at(base, window, base2, window2, 64, area_address(l))
 }

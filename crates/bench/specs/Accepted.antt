@@ -3,6 +3,7 @@ use Prim.Native.Nat.{ℕ, zero, suc, _+_, _/_, _%_}
 use mathlib.Core.Path.{_≡_}
 use mathlib.Core.List.{List, [], _∷_, _++_}
 use lib.ListN.{replicate}
+use Rattle.memory.specs.Address.{asAddress}
 use Rattle.memory.specs.Memory.{Memory, lent}
 use Rattle.inputs.specs.Checks.{startVerdict}
 use Rattle.inputs.specs.declared.verdict.Verdict.the-variants.{Accepted}
@@ -24,7 +25,7 @@ linkedFrom (suc (suc n)) l = bytesOf l ++ (replicate 60 0 ++ linkedFrom (suc n) 
 
 -- the pool walk's windows: 4,096 bytes at D0000000, and a second one of length 0
 abbrev pub pool : Memory
-pool = lent 0xD000_0000 (linkedFrom 64 0xD_0001) 0 []
+pool = lent (asAddress 0xD000_0000) (linkedFrom 64 0xD_0001) (asAddress 0) []
 
 -- PC is the first load address, FCX D0000, PCXI 0
 abbrev pub PoolAccepted : Type 0

@@ -6,7 +6,8 @@ use Rattle.arithmetic.specs.Arithmetic.{addOf, addsOf, absOf, mulOf}
 use Rattle.bitwise.specs.Shift.{shaOf, shOf}
 use Rattle.bitwise.specs.Leading.{clsOf, clzOf}
 use Rattle.compare.specs.Compare.{ltOf, ltuOf}
-use Rattle.areas.specs.Link.{addressOf}
+use Rattle.memory.specs.Address.{asAddress}
+use Rattle.areas.specs.Link.{areaAddress}
 use Rattle.protection.specs.Range.{permits}
 use Rattle.protection.specs.declared.range.Range.{Range}
 use Rattle.protection.specs.declared.range.Right.the-variants.{Read}
@@ -30,7 +31,7 @@ pub record IntegerValues : Type 0 where
 
 -- "Areas and lists"
 pub record LinkValues : Type 0 where
-  pub address : addressOf (record { 0 = 0xD_0001 }) ≡ record { 0 = 0xD000_0040 }
+  pub address : areaAddress (record { 0 = 0xD_0001 }) ≡ record { 0 = 0xD000_0040 }
 
 -- a range from D0000100 to D0000200 that may be read
 abbrev pub range : Range
@@ -38,8 +39,8 @@ range = record { lower = 0xD000_0100; upper = 0xD000_0200; mode = 0x40 }
 
 -- "Traps"
 pub record RangeValues : Type 0 where
-  pub inside : permits range Read 0xD000_01FF ≡ true
-  pub outside : permits range Read 0xD000_0200 ≡ false
+  pub inside : permits range Read (asAddress 0xD000_01FF) ≡ true
+  pub outside : permits range Read (asAddress 0xD000_0200) ≡ false
 
 -- "Interrupt", with IE 1 and CCPN 5
 pub record InterruptValues : Type 0 where

@@ -1,11 +1,12 @@
 // Document 01's bench values, AV of ADDS by 02, point 3, computed and printed. The file stdout has the values that the documents give.
 
-use areas::link::Link;
-use areas::link::address_of;
+use areas::link::area_address;
+use fields::link::Link;
 use integer::Integer;
 use integer::compute;
 use interrupts::taken;
 use libc::STDOUT_FILENO;
+use memory::address::Address;
 use protection::range::Permit;
 use protection::range::Right;
 use protection::range::search;
@@ -35,7 +36,7 @@ fn link_values() {
     text(b"link: address\n");
     word(0xD_0001);
     text(b": ");
-    let a = address_of(Link(0xD_0001));
+    let a = area_address(Link(0xD_0001));
     word(a.0);
     text(b"\n");
 }
@@ -47,9 +48,9 @@ fn range_values() {
     words[0] = 0xD000_0100;
     words[1] = 0xD000_0200;
     words[2] = 0x40;
-    let inside = search(&words, 0, Right::Read, 0xD000_01FF);
+    let inside = search(&words, 0, Right::Read, Address(0xD000_01FF));
     range_row(0xD000_01FF, inside);
-    let outside = search(&words, 0, Right::Read, 0xD000_0200);
+    let outside = search(&words, 0, Right::Read, Address(0xD000_0200));
     range_row(0xD000_0200, outside);
 }
 

@@ -2,7 +2,7 @@
 -- Assumes nothing.
 use Prim.Native.Nat.{ℕ, _+_, _*_, _/_, _%_, _^_, _≤_, _<_}
 use native.Mathlib.Omega.{arith}
-use mathlib.Core.Path.{_≡_, refl}
+use mathlib.Core.Path.{_≡_, refl, ap}
 use mathlib.Core.Bool.{Bool, true, false, cond, _||_}
 use lib.Bits.{bitAnd, bitOr, bitXor, and-lt, or-lt, xor-lt}
 use lib.Dec.{eqb}
@@ -11,6 +11,7 @@ use Rattle.fields.specs.Field.{isSet}
 use Rattle.fields.specs.Psw.{PSW·C, PSW·SV, PSW·SAV, statusOf, flaggedOf, overflowedOf, resetOf}
 use Rattle.fields.specs.Depth.{counts, calledOf}
 use Rattle.fields.specs.Icr.{ICR·IE, icrOf}
+use Rattle.fields.specs.Link.{linkOf}
 use Rattle.fields.specs.Pcxi.{PCXI·UL, pcxiOf}
 use Rattle.fields.proofs.Flags.{number-le}
 use Rattle.fields.proofs.Counters.{below}
@@ -44,13 +45,13 @@ pub icr-word : (icr : ℕ) (ie : Bool) (ccpn : ℕ) → icr < 2 ^ 32 → icrOf i
 unfolding icrOf
 icr-word icr ie ccpn h = omega (arith, number-le ie)
 
-pub pcxi-word : (icr : ℕ) (ul : Bool) (fcx : ℕ) → pcxiOf icr ul fcx < 2 ^ 32
+pub pcxi-word : (icr : ℕ) (ul : Bool) (fcx : ℕ) → pcxiOf icr ul (linkOf fcx) < 2 ^ 32
 unfolding pcxiOf
 pcxi-word icr ul fcx = omega (arith, number-le (ICR·IE icr), number-le ul)
 
-pub pcxi-link : (icr : ℕ) (ul : Bool) (fcx : ℕ) → pcxiOf icr ul fcx % 2 ^ 20 ≡ fcx % 2 ^ 20
+pub pcxi-link : (icr : ℕ) (ul : Bool) (fcx : ℕ) → linkOf (pcxiOf icr ul (linkOf fcx)) ≡ linkOf fcx
 unfolding pcxiOf
-pcxi-link icr ul fcx = omega arith
+pcxi-link icr ul fcx = let e : pcxiOf icr ul (linkOf fcx) % 2 ^ 20 ≡ fcx % 2 ^ 20 = omega arith in ap (λ (x : ℕ). record { 0 = x }) e
 
 -- bit 22, over a link and under PIE and PCPN
 ul-bit : (p i u l : ℕ) → u ≤ 1 → l < 2 ^ 20 → (p * 2 ^ 24 + i * 2 ^ 23 + u * 2 ^ 22 + l) / 2 ^ 22 % 2 ≡ u
@@ -61,7 +62,7 @@ tested : (b : Bool) → eqb (number b) 1 ≡ b
 tested true = refl
 tested false = refl
 
-pub pcxi-ul : (icr : ℕ) (ul : Bool) (fcx : ℕ) → PCXI·UL (pcxiOf icr ul fcx) ≡ ul
+pub pcxi-ul : (icr : ℕ) (ul : Bool) (fcx : ℕ) → PCXI·UL (pcxiOf icr ul (linkOf fcx)) ≡ ul
 unfolding pcxiOf isSet bit
 pcxi-ul icr ul fcx = rw (ul-bit (icr % 2 ^ 8) (number (ICR·IE icr)) (number ul) (fcx % 2 ^ 20) (number-le ul) (omega arith)) (tested ul)
 

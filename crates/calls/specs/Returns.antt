@@ -6,7 +6,7 @@ use Rattle.fields.specs.Psw.{PSW·PRS}
 use Rattle.fields.specs.Pcxi.{PCXI·PCPN, PCXI·PIE, PCXI·UL}
 use Rattle.fields.specs.Depth.{underflowsDown, nested}
 use Rattle.fields.specs.Icr.{icrOf}
-use Rattle.areas.specs.Link.{linkOf}
+use Rattle.fields.specs.Link.{linkOf}
 use Rattle.registers.specs.Registers.{A, psw, pcxi, icr, withPc, withIcr, even}
 use Rattle.registers.specs.declared.Registers.{Registers}
 use Rattle.events.specs.Traps.{CDU, CSU, CTYP, NEST}

@@ -9,6 +9,7 @@ use acts::How;
 use acts::passed_on;
 use events::trap::system_call;
 use image::fetch::Instruction;
+use memory::address::Address;
 use operations::Context;
 use registers::PC;
 use registers::plus;
@@ -54,9 +55,9 @@ fn is_bisr(op: Context) -> bool
 
 // CALL and CALLI have one call between them, and so have SVLCX and BISR: a function with one caller is compiled into it.
 pub fn execute_context(
-    base: u32,
+    base: Address,
     window: &mut [u8],
-    base2: u32,
+    base2: Address,
     window2: &mut [u8],
     d: &mut [u32; 16],
     a: &mut [u32; 16],

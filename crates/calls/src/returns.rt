@@ -3,7 +3,6 @@
 use acts::How;
 use acts::control_of;
 use acts::settled;
-use areas::link::link_of;
 use contexts::context::Half;
 use contexts::restore::Returned;
 use contexts::restore::restore;
@@ -15,7 +14,9 @@ use events::trap::NEST;
 use events::trap::Trap;
 use fields::depth::in_call;
 use fields::depth::underflows;
+use fields::link::link_of;
 use fields::pcxi;
+use memory::address::Address;
 use registers::ICR;
 use registers::PC;
 use registers::PCXI;
@@ -57,9 +58,9 @@ fn previous_context(word: u32, half: Half) -> Previous
 }
 
 pub fn ret(
-    base: u32,
+    base: Address,
     window: &mut [u8],
-    base2: u32,
+    base2: Address,
     window2: &mut [u8],
     d: &mut [u32; 16],
     a: &mut [u32; 16],
@@ -87,9 +88,9 @@ pub fn ret(
 }
 
 pub fn rfe(
-    base: u32,
+    base: Address,
     window: &mut [u8],
-    base2: u32,
+    base2: Address,
     window2: &mut [u8],
     d: &mut [u32; 16],
     a: &mut [u32; 16],
@@ -123,9 +124,9 @@ pub fn rfe(
 }
 
 pub fn rslcx(
-    base: u32,
+    base: Address,
     window: &mut [u8],
-    base2: u32,
+    base2: Address,
     window2: &mut [u8],
     d: &mut [u32; 16],
     a: &mut [u32; 16],

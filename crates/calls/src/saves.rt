@@ -10,6 +10,7 @@ use events::trap::CDO;
 use events::trap::PRIV;
 use fields::depth::called;
 use fields::depth::overflows;
+use memory::address::Address;
 use registers::ICR;
 use registers::PC;
 use registers::PSW;
@@ -31,9 +32,9 @@ fn set_called(d: &mut [u32; 16], a: &mut [u32; 16], core: &mut [u32; 10], to: u3
 
 // CALL and CALLI, to an address.
 pub fn call(
-    base: u32,
+    base: Address,
     window: &mut [u8],
-    base2: u32,
+    base2: Address,
     window2: &mut [u8],
     d: &mut [u32; 16],
     a: &mut [u32; 16],
@@ -93,9 +94,9 @@ fn set_after(
 
 // SVLCX and BISR.
 pub fn save_lower_half(
-    base: u32,
+    base: Address,
     window: &mut [u8],
-    base2: u32,
+    base2: Address,
     window2: &mut [u8],
     d: &mut [u32; 16],
     a: &mut [u32; 16],

@@ -5,10 +5,11 @@ use mathlib.Core.Path.{_≡_, sym, ap, ap₂, _∙_}
 use mathlib.Core.List.{List, _++_}
 use lib.ListN.{length}
 use Rattle.memory.specs.Memory.{windows, Memory, memory, lent}
-use Rattle.areas.specs.Link.{linkOf}
+use Rattle.fields.specs.Link.{linkOf}
 use Rattle.areas.specs.Place.{placeOf, offset}
 use Rattle.areas.specs.Area.{areaAt, areaOf}
-use Rattle.areas.specs.declared.link.Link.{Link}
+use Rattle.fields.specs.declared.link.Link.{Link}
+use Rattle.memory.specs.declared.address.Address.{Address}
 use Rattle.areas.specs.declared.link.Spot.{Spot}
 use Rattle.areas.specs.declared.link.Place.the-variants as place
 use Rattle.areas.proofs.Parts.{area-placed, area-64}
@@ -26,7 +27,7 @@ module _ (m : Memory) (l k : Link) (at : ℕ) (bytes : List ℕ) (is : bytes ≡
   pub read-64 : length bytes ≡ 64
   read-64 = ap length (is ∙ ap (areaOf m) e) ∙ area-64 m l at p
 
-pub return-made : (half : Half) (r : Registers) (s t : List ℕ) (b c at : ℕ) (x : Spot) → placeOf (lent b s c t) (linkOf (pcxi r)) ≡ place.At at → offset (length s) x ≡ at
+pub return-made : (half : Half) (r : Registers) (s t : List ℕ) (b c : Address) (at : ℕ) (x : Spot) → placeOf (lent b s c t) (linkOf (pcxi r)) ≡ place.At at → offset (length s) x ≡ at
     → (q : Registers) (bytes′ : List ℕ) (k : ℕ) → loaded q bytes′ ≡ loadOf half (offset (length s) x) r (s ++ t) → k ≡ length s
     → returning Done q (memory (windows b k c) bytes′) ≡ returnOf half r (lent b s c t)
 unfolding returnOf

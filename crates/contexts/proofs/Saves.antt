@@ -8,10 +8,11 @@ use mathlib.Core.List.{List, _++_}
 use lib.ListN.{length, getD}
 use Rattle.memory.specs.Memory.{Windows, windows, Memory, memory, lent}
 use Rattle.memory.specs.Word.{wordAt, putWords}
-use Rattle.areas.specs.Link.{linkOf}
+use Rattle.fields.specs.Link.{linkOf}
 use Rattle.areas.specs.Place.{placeOf, spotOf, Lies, LiesIn, offset}
 use Rattle.areas.specs.Area.{areaOf}
-use Rattle.areas.specs.declared.link.Link.{Link}
+use Rattle.fields.specs.declared.link.Link.{Link}
+use Rattle.memory.specs.declared.address.Address.{Address}
 use Rattle.areas.specs.declared.link.Spot.{Spot}
 use Rattle.areas.specs.declared.link.Place.the-variants as place
 use Rattle.areas.proofs.Places.{spot-at-place}
@@ -23,9 +24,9 @@ use Rattle.contexts.specs.declared.context.Half.{Half}
 use Rattle.contexts.specs.declared.save.Room.the-variants as room
 use Rattle.contexts.specs.declared.save.Saved.{Saved}
 use Rattle.contexts.specs.declared.save.Saved.the-variants.{Done, Depleted, Stops}
-use Rattle.contexts.proofs.Rooms.{room-at, room-link}
+use Rattle.contexts.proofs.Rooms.{room-at}
 
-module _ (core s t : List ℕ) (b c : ℕ) where
+module _ (core s t : List ℕ) (b c : Address) where
   abbrev m : Memory
   m = lent b s c t
 
@@ -33,14 +34,14 @@ module _ (core s t : List ℕ) (b c : ℕ) where
   l = linkOf (getD core FCX 0)
 
   -- no area
-  pub save-stops : (half : Half) (words : List ℕ) (x : Stop) → roomOf m (getD core FCX 0) ≡ room.Stops x → saving (Stops x) core m ≡ saveOf half words core m
+  pub save-stops : (half : Half) (words : List ℕ) (x : Stop) → roomOf m l ≡ room.Stops x → saving (Stops x) core m ≡ saveOf half words core m
   unfolding saveOf
   save-stops half words x e = rw e
 
   -- the area is found
-  module _ (at : ℕ) (e : roomOf m (getD core FCX 0) ≡ room.At at) where
+  module _ (at : ℕ) (e : roomOf m l ≡ room.At at) where
     place-found : placeOf m l ≡ place.At at
-    place-found = room-at (m .windows) (length (m .bytes)) (getD core FCX 0) at e .lies
+    place-found = room-at (m .windows) (length (m .bytes)) l at e .lies
 
     pub area-lies : Lies m l
     area-lies = (at, place-found)
@@ -52,14 +53,13 @@ module _ (core s t : List ℕ) (b c : ℕ) where
     next-is next n = n ∙ ap linkOf (first-word-placed m l at place-found)
 
     pub taken-is : (half : Half) (words : List ℕ) (next : Link) → next ≡ linkOf (wordAt (areaOf m l) 0) → (x : Spot) → x ≡ spotOf m l
-        → taken (headsOf half (next .0) core) (putWords (s ++ t) (offset (length s) x) words 16) ≡ takeOf half words at core (s ++ t)
+        → taken (headsOf half next core) (putWords (s ++ t) (offset (length s) x) words 16) ≡ takeOf half words at core (s ++ t)
     unfolding takeOf
     taken-is half words next n x f = rw (next-is next n, spot-at-place s t b c l x f at place-found .1)
 
-    module _ (half : Half) (words : List ℕ) (next : Link) (n : next ≡ linkOf (wordAt (areaOf m l) 0)) (v : Saved) (f : v ≡ foreseenOf core m (next .0)) where
-      foreseen-is : v ≡ foreseenOf core m (wordAt (s ++ t) at)
-      unfolding foreseenOf
-      foreseen-is = f ∙ rw (next-is next n, room-link (m .windows) (length (m .bytes)) (wordAt (s ++ t) at)) refl
+    module _ (half : Half) (words : List ℕ) (next : Link) (n : next ≡ linkOf (wordAt (areaOf m l) 0)) (v : Saved) (f : v ≡ foreseenOf core m next) where
+      foreseen-is : v ≡ foreseenOf core m (linkOf (wordAt (s ++ t) at))
+      foreseen-is = f ∙ ap (foreseenOf core m) (next-is next n)
 
       save-is : savedBy half words at core m v ≡ saveOf half words core m
       unfolding saveOf saveAtOf
@@ -76,7 +76,7 @@ module _ (core s t : List ℕ) (b c : ℕ) where
 
       -- it is made
       pub save-made : stopsOf v ≡ false → (x : Spot) → x ≡ spotOf m l → (core′ bytes′ : List ℕ) (k : ℕ)
-          → taken core′ bytes′ ≡ taken (headsOf half (next .0) core) (putWords (s ++ t) (offset (length s) x) words 16) → k ≡ length s
+          → taken core′ bytes′ ≡ taken (headsOf half next core) (putWords (s ++ t) (offset (length s) x) words 16) → k ≡ length s
           → saving v core′ (memory (windows b k c) bytes′) ≡ saveOf half words core m
       save-made g x h core′ bytes′ k q e = by v g ∙ save-is
         where

@@ -4,7 +4,7 @@ use mathlib.Core.List.{List}
 use lib.Seq.{sets}
 use Rattle.memory.specs.Memory.{Windows, Memory, memory}
 use Rattle.memory.specs.Word.{wordAt, wordsAt, putWord}
-use Rattle.areas.specs.Link.{linkOf}
+use Rattle.fields.specs.Link.{linkOf}
 use Rattle.areas.specs.Place.{placeOf}
 use Rattle.areas.specs.Area.{areaAt}
 use Rattle.areas.specs.declared.link.Place.{Place}

@@ -6,7 +6,9 @@ use lib.ListN.{length, getD, set}
 use lib.Dec.{eqb}
 use Rattle.memory.specs.Memory.{Windows, Memory, memory}
 use Rattle.memory.specs.Word.{wordAt, putWords}
-use Rattle.areas.specs.Link.{linkOf, addressOf}
+use Rattle.fields.specs.Link.{linkOf}
+use Rattle.areas.specs.Link.{areaAddress}
+use Rattle.fields.specs.declared.link.Link.{Link}
 use Rattle.areas.specs.Place.{placed}
 use Rattle.areas.specs.declared.link.Place.{Place}
 use Rattle.areas.specs.declared.link.Place.the-variants as place
@@ -24,12 +26,12 @@ abbrev pub roomBy : Place → Room
 roomBy (place.At at) = room.At at
 roomBy place.Outside = room.Stops Outside
 
--- the area that a link word names, for a save: 11 where the link is 0, 12 where neither window has the area
-unfoldable pub roomAt : Windows → ℕ → ℕ → Room
-roomAt w len word = cond (eqb (linkOf word .0) 0) (room.Stops NoArea) (roomBy (placed w len (addressOf (linkOf word))))
+-- the area that a link names, for a save: 11 where the link is 0, 12 where neither window has the area
+unfoldable pub roomAt : Windows → ℕ → Link → Room
+roomAt w len l = cond (eqb (l .0) 0) (room.Stops NoArea) (roomBy (placed w len (areaAddress l)))
 
-abbrev pub roomOf : Memory → ℕ → Room
-roomOf m word = roomAt (m .windows) (length (m .bytes)) word
+abbrev pub roomOf : Memory → Link → Room
+roomOf m l = roomAt (m .windows) (length (m .bytes)) l
 
 -- the core registers and the bytes of both windows after an area was taken
 pub record Taken : Type 0 where
@@ -40,15 +42,15 @@ abbrev pub taken : List ℕ → List ℕ → Taken
 taken core bytes = record { core = core; bytes = bytes }
 
 -- the heads after a save: PCXI is set (PCPN = CCPN, PIE = IE, UL, link = the taken area), then FCX, to the next link
-abbrev pub headsOf : Half → ℕ → List ℕ → List ℕ
+abbrev pub headsOf : Half → Link → List ℕ → List ℕ
 headsOf half next core =
     let fcx = getD core FCX 0 in
     let icr = getD core ICR 0 in
-    set (set core PCXI (pcxiOf icr (ulOf half) fcx)) FCX next
+    set (set core PCXI (pcxiOf icr (ulOf half) (linkOf fcx))) FCX (next .0)
 
 -- the area's first word is read as the next FCX (low 20 bits, the others 0), and the sixteen words are written
 unfoldable pub takeOf : Half → List ℕ → ℕ → List ℕ → List ℕ → Taken
-takeOf half words at core bytes = taken (headsOf half (linkOf (wordAt bytes at) .0) core) (putWords bytes at words 16)
+takeOf half words at core bytes = taken (headsOf half (linkOf (wordAt bytes at)) core) (putWords bytes at words 16)
 
 -- what a save comes to, and the core registers and the memory after it
 pub record Saving : Type 0 where
@@ -67,7 +69,7 @@ abbrev pub foreseenBy : Room → Saved
 foreseenBy (room.Stops s) = Stops s
 foreseenBy (room.At second) = Depleted
 
-unfoldable pub foreseenOf : List ℕ → Memory → ℕ → Saved
+unfoldable pub foreseenOf : List ℕ → Memory → Link → Saved
 foreseenOf core m next =
     let fcx = getD core FCX 0 in
     let lcx = getD core LCX 0 in
@@ -85,7 +87,7 @@ savedBy half words at core m Depleted = taking Depleted (m .windows) (takeOf hal
 
 -- a save into the area at byte `at`
 unfoldable pub saveAtOf : Half → List ℕ → ℕ → List ℕ → Memory → Saving
-saveAtOf half words at core m = savedBy half words at core m (foreseenOf core m (wordAt (m .bytes) at))
+saveAtOf half words at core m = savedBy half words at core m (foreseenOf core m (linkOf (wordAt (m .bytes) at)))
 
 abbrev pub saveBy : Half → List ℕ → List ℕ → Memory → Room → Saving
 saveBy half words core m (room.Stops s) = saving (Stops s) core m
@@ -93,4 +95,4 @@ saveBy half words core m (room.At at) = saveAtOf half words at core m
 
 -- a save of sixteen words into the area at FCX. A stop leaves all as it was
 unfoldable pub saveOf : Half → List ℕ → List ℕ → Memory → Saving
-saveOf half words core m = let fcx = getD core FCX 0 in saveBy half words core m (roomOf m fcx)
+saveOf half words core m = let fcx = getD core FCX 0 in saveBy half words core m (roomOf m (linkOf fcx))

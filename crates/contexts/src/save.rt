@@ -6,14 +6,14 @@ use crate::context::ul;
 use crate::context::upper;
 use areas::area::next_link;
 use areas::area::write_area;
-use areas::link::Address;
-use areas::link::Link;
 use areas::link::Place;
 use areas::link::Spot;
-use areas::link::link_of;
 use areas::link::locate;
 use areas::link::spot_of;
 use events::event::Stop;
+use fields::link::Link;
+use fields::link::link_of;
+use memory::address::Address;
 use registers::FCX;
 use registers::ICR;
 use registers::LCX;
@@ -41,15 +41,14 @@ pub enum Saved {
     Stops(Stop),
 }
 
-// The area that a link word names, for a save.
-pub fn find(base: u32, window: &[u8], base2: u32, window2: &[u8], word: u32) -> Room
-    ensures { λ r. ⌜ r ≡ roomOf (lent base (now (window .entry)) base2 (now (window2 .entry))) word ⌝ }
+// The area that a link names, for a save.
+pub fn find(base: Address, window: &[u8], base2: Address, window2: &[u8], l: Link) -> Room
+    ensures { λ r. ⌜ r ≡ roomOf (lent base (now (window .entry)) base2 (now (window2 .entry))) l ⌝ }
 {
-    let l = link_of(word);
     if l.0 == 0 {
         return Room::Stops(Stop::NoArea);
     }
-    match locate(Address(base), window, Address(base2), window2, l) {
+    match locate(base, window, base2, window2, l) {
         Place::At(at) => Room::At(at),
         Place::Outside => Room::Stops(Stop::Outside),
     }
@@ -57,21 +56,21 @@ pub fn find(base: u32, window: &[u8], base2: u32, window2: &[u8], word: u32) -> 
 
 // Whether an FCD entry follows the save of the area at FCX, and whether there is an area for it.
 fn foresee(
-    base: u32,
+    base: Address,
     window: &[u8],
-    base2: u32,
+    base2: Address,
     window2: &[u8],
     core: &[u32; 10],
     next: Link,
 ) -> Saved
-    ensures { λ r. ⌜ r ≡ foreseenOf (now (core .entry)) (lent base (now (window .entry)) base2 (now (window2 .entry))) (next .0) ⌝ }
+    ensures { λ r. ⌜ r ≡ foreseenOf (now (core .entry)) (lent base (now (window .entry)) base2 (now (window2 .entry))) next ⌝ }
 {
     let taken = link_of(core[FCX]);
     let limit = link_of(core[LCX]);
     if taken.0 != limit.0 {
         return Saved::Done;
     }
-    match find(base, window, base2, window2, next.0) {
+    match find(base, window, base2, window2, next) {
         Room::Stops(s) => Saved::Stops(s),
         Room::At(_) => Saved::Depleted,
     }
@@ -98,19 +97,19 @@ pub fn take(
     next: Link,
 )
     requires { ⌜ LiesIn (length (now window)) (length (now window2)) 64 at ⌝ }
-    ensures { λ _. ⌜ taken (now (core .exit)) (now (window .exit) ++ now (window2 .exit)) ≡ taken (headsOf half (next .0) (now (core .entry))) (putWords (now (window .entry) ++ now (window2 .entry)) (offset (length (now (window .entry))) at) words 16) ⌝ }
+    ensures { λ _. ⌜ taken (now (core .exit)) (now (window .exit) ++ now (window2 .exit)) ≡ taken (headsOf half next (now (core .entry))) (putWords (now (window .entry) ++ now (window2 .entry)) (offset (length (now (window .entry))) at) words 16) ⌝ }
     ensures { λ _. ⌜ length (now (window .exit)) ≡ length (now (window .entry)) ⌝ }
 {
     write_area(window, window2, at, words);
-    core[PCXI] = fields::pcxi::saved(core[ICR], ul(half), core[FCX]);
+    core[PCXI] = fields::pcxi::saved(core[ICR], ul(half), link_of(core[FCX]));
     core[FCX] = next.0;
 }
 
 // A save of the upper context. Nothing is written before it is known that neither it nor an FCD entry after it stops.
 pub fn save_upper(
-    base: u32,
+    base: Address,
     window: &mut [u8],
-    base2: u32,
+    base2: Address,
     window2: &mut [u8],
     d: &[u32; 16],
     a: &[u32; 16],
@@ -118,12 +117,12 @@ pub fn save_upper(
 ) -> Saved
     ensures { λ r. ⌜ saving r (now (core .exit)) (lent base (now (window .exit)) base2 (now (window2 .exit))) ≡ saveOf Half.Upper (upperOf (registers (now (d .entry)) (now (a .entry)) (now (core .entry)))) (now (core .entry)) (lent base (now (window .entry)) base2 (now (window2 .entry))) ⌝ }
 {
-    match find(base, window, base2, window2, core[FCX]) {
+    let l = link_of(core[FCX]);
+    match find(base, window, base2, window2, l) {
         Room::Stops(s) => Saved::Stops(s),
         Room::At(_) => {
-            let l = link_of(core[FCX]);
-            let at = spot_of(Address(base), window, Address(base2), window2, l);
-            let next = next_link(Address(base), window, Address(base2), window2, l);
+            let at = spot_of(base, window, base2, window2, l);
+            let next = next_link(base, window, base2, window2, l);
             let saved = foresee(base, window, base2, window2, core, next);
             if stops(saved) {
                 return saved;
@@ -137,9 +136,9 @@ pub fn save_upper(
 
 // A save of the lower context, with the saved PC.
 pub fn save_lower(
-    base: u32,
+    base: Address,
     window: &mut [u8],
-    base2: u32,
+    base2: Address,
     window2: &mut [u8],
     d: &[u32; 16],
     a: &[u32; 16],
@@ -148,12 +147,12 @@ pub fn save_lower(
 ) -> Saved
     ensures { λ r. ⌜ saving r (now (core .exit)) (lent base (now (window .exit)) base2 (now (window2 .exit))) ≡ saveOf Half.Lower (lowerOf pc (registers (now (d .entry)) (now (a .entry)) (now (core .entry)))) (now (core .entry)) (lent base (now (window .entry)) base2 (now (window2 .entry))) ⌝ }
 {
-    match find(base, window, base2, window2, core[FCX]) {
+    let l = link_of(core[FCX]);
+    match find(base, window, base2, window2, l) {
         Room::Stops(s) => Saved::Stops(s),
         Room::At(_) => {
-            let l = link_of(core[FCX]);
-            let at = spot_of(Address(base), window, Address(base2), window2, l);
-            let next = next_link(Address(base), window, Address(base2), window2, l);
+            let at = spot_of(base, window, base2, window2, l);
+            let next = next_link(base, window, base2, window2, l);
             let saved = foresee(base, window, base2, window2, core, next);
             if stops(saved) {
                 return saved;

@@ -4,6 +4,7 @@ use Prim.Native.Nat.{ℕ}
 use mathlib.Core.Path.{_≡_, refl}
 use mathlib.Core.Bool.{true, false}
 use mathlib.Core.List.{List}
+use Rattle.memory.specs.Address.{asAddress}
 use Rattle.memory.specs.Memory.{Memory}
 use Rattle.registers.specs.Registers.{pc, icr}
 use Rattle.registers.specs.declared.Registers.{Registers}
@@ -32,7 +33,7 @@ clears-none xs Passes (Found i) = refl
 
 fetch-clears : (xs img core : List ℕ) (rs : List Range) (pc : ℕ) → clearedBy xs (fetchingAt img core rs pc) ≡ xs
 unfolding fetchingAt
-fetch-clears xs img core rs pc = clears-none xs (checkOf core rs Execute pc) (fetchOf img pc)
+fetch-clears xs img core rs pc = clears-none xs (checkOf core rs Execute (asAddress pc)) (fetchOf img pc)
 
 -- a step that takes no interrupt
 unfoldable pub fetchedStep : List ℕ → Registers → List Range → Memory → MadeOf

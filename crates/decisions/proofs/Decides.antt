@@ -7,6 +7,7 @@ use mathlib.Core.Bool.{Bool, true, false, cond}
 use mathlib.Core.List.{List}
 use lib.ListN.{getD, length}
 use lib.Dec.{eqb}
+use Rattle.memory.specs.Address.{asAddress}
 use Rattle.memory.specs.Memory.{Memory}
 use Rattle.registers.specs.Registers.{pc, pcxi, icr}
 use Rattle.registers.specs.declared.Registers.{Registers}
@@ -74,7 +75,7 @@ module _ {img : List ℕ} (b : Bytes img) (pc : ℕ) (e : pc % 2 ≡ 0) where
 
   pub fetching-known : (core : List ℕ) (rs : List Range) → Known (fetchingAt img core rs pc)
   unfolding fetchingAt
-  fetching-known core rs = by (checkOf core rs right.Execute pc) (check-bytes core rs right.Execute pc)
+  fetching-known core rs = by (checkOf core rs right.Execute (asAddress pc)) (check-bytes core rs right.Execute (asAddress pc))
     where
       by : (c : Check) → CheckBytes c → Known (checkBegins c (fetchOf img pc))
       by (Fails t) h = h

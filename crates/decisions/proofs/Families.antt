@@ -8,6 +8,7 @@ use mathlib.Core.List.{List}
 use lib.ListN.{length, getD}
 use lib.Dec.{eqb}
 use Rattle.memory.specs.Memory.{Windows, Memory}
+use Rattle.memory.specs.declared.address.Address.{Address}
 use Rattle.fields.specs.Psw.{PSW·PRS, isUser0}
 use Rattle.fields.specs.Syscon.{SYSCON·PROTEN}
 use Rattle.bounds.proofs.Results.{compute-word, compute-psw}
@@ -132,7 +133,7 @@ denied-bytes right.Execute = small (omega arith) (omega arith)
 peripheral-bytes : TrapBytes MPP
 peripheral-bytes = small (omega arith) (omega arith)
 
-pub check-bytes : (core : List ℕ) (rs : List Range) (right : Right) (address : ℕ) → CheckBytes (checkOf core rs right address)
+pub check-bytes : (core : List ℕ) (rs : List Range) (right : Right) (address : Address) → CheckBytes (checkOf core rs right address)
 unfolding checkOf
 check-bytes core rs right address =
     either-has CheckBytes (peripheral address) (either-has CheckBytes (isUser0 (getD core 1 0)) peripheral-bytes tt) (either-has CheckBytes (not (SYSCON·PROTEN (getD core 9 0)) || permitted rs (PSW·PRS (getD core 1 0)) right address) tt (denied-bytes right))
@@ -142,7 +143,7 @@ abbrev pub ReachBytes : Reach → Type 0
 ReachBytes (At at) = Unit {0}
 ReachBytes (Traps t) = TrapBytes t
 
-module _ (w : Windows) (len : ℕ) (core : List ℕ) (rs : List Range) (right : Right) (guarded : Bool) (size alignment address : ℕ) where
+module _ (w : Windows) (len : ℕ) (core : List ℕ) (rs : List Range) (right : Right) (guarded : Bool) (size alignment : ℕ) (address : Address) where
   placed-bytes : (p : Place) → ReachBytes (placedReach p)
   placed-bytes place.Outside = small (omega arith) (omega arith)
   placed-bytes (place.At at) = tt
@@ -151,7 +152,7 @@ module _ (w : Windows) (len : ℕ) (core : List ℕ) (rs : List Range) (right : 
   unfolding alignedReach
   aligned-bytes =
       either-has ReachBytes guarded (small (omega arith) (omega arith))
-      (either-has ReachBytes (eqb (address % alignment) 0) (placed-bytes (placedAt w len size (record { 0 = address }))) (small (omega arith) (omega arith)))
+      (either-has ReachBytes (eqb (address .0 % alignment) 0) (placed-bytes (placedAt w len size address)) (small (omega arith) (omega arith)))
 
   checked-bytes : (c : Check) → CheckBytes c → ReachBytes (checkedReach c (alignedReach w len guarded size alignment address))
   checked-bytes (Fails t) h = h

@@ -11,7 +11,7 @@ use Rattle.registers.specs.declared.Registers.{Registers}
 use Rattle.events.specs.declared.event.Event.the-variants as event
 use Rattle.events.specs.declared.event.Stop.the-variants as stop
 use Rattle.events.specs.declared.event.Ending.the-variants.{Made, Stopped}
-use Rattle.areas.specs.Link.{linkOf}
+use Rattle.fields.specs.Link.{linkOf}
 use Rattle.areas.specs.Place.{placeOf}
 use Rattle.areas.specs.Area.{areaAt}
 use Rattle.areas.specs.declared.link.Place.{Place}

@@ -3,6 +3,7 @@ use Prim.Native.Nat.{ℕ}
 use mathlib.Core.Bool.{cond}
 use mathlib.Core.List.{List}
 use lib.ListN.{getD}
+use Rattle.memory.specs.Address.{asAddress}
 use Rattle.registers.specs.Core.{PC, ICR}
 use Rattle.events.specs.Traps.{CODE}
 use Rattle.events.specs.declared.trap.Trap.{Trap}
@@ -38,7 +39,7 @@ checkBegins Passes f = fetchBegins f
 
 -- the fetch at an address
 unfoldable pub fetchingAt : List ℕ → List ℕ → List Range → ℕ → Beginning
-fetchingAt img core rs pc = checkBegins (checkOf core rs Execute pc) (fetchOf img pc)
+fetchingAt img core rs pc = checkBegins (checkOf core rs Execute (asAddress pc)) (fetchOf img pc)
 
 -- img is the image, core the core registers, xs the request words of the 16 sources, rs the 32 ranges
 unfoldable pub beginningOf : List ℕ → List ℕ → List ℕ → List Range → Beginning

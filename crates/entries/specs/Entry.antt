@@ -6,6 +6,7 @@ use lib.Bits.{bitOr}
 use Rattle.memory.specs.Memory.{Memory, memory}
 use Rattle.fields.specs.Psw.{PSW·IS}
 use Rattle.fields.specs.Icr.{ICR·CCPN, icrOf}
+use Rattle.fields.specs.Link.{linkOf}
 use Rattle.registers.specs.Registers.{registers, A, pc, psw, fcx, icr, isp, biv, btv, withD, withA, withPc, withPsw, withIcr, even}
 use Rattle.registers.specs.declared.Registers.{Registers}
 use Rattle.events.specs.Traps.{FCD}
@@ -69,7 +70,7 @@ fcdBy r m (room.At at) =
     made (Made (event.Trap FCD)) (trapEntry FCD (pc q) q) (memory (m .windows) (t .bytes))
 
 unfoldable pub fcdOf : Registers → Memory → MadeOf
-fcdOf r m = fcdBy r m (roomOf m (fcx r))
+fcdOf r m = fcdBy r m (roomOf m (linkOf (fcx r)))
 
 -- after a save: `then` are the registers from those with the heads set; an FCD entry follows where the area taken is LCX's
 abbrev pub entering : Event → (Registers → Registers) → Registers → Saved → List ℕ → Memory → MadeOf

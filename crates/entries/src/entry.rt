@@ -3,8 +3,6 @@
 use crate::setting::enter_interrupt;
 use crate::setting::enter_trap;
 use areas::area::next_link;
-use areas::link::Address;
-use areas::link::link_of;
 use areas::link::spot_of;
 use contexts::context::Half;
 use contexts::context::upper;
@@ -17,6 +15,8 @@ use events::event::Ending;
 use events::event::Event;
 use events::trap::FCD;
 use events::trap::Trap;
+use fields::link::link_of;
+use memory::address::Address;
 use registers::FCX;
 use registers::PC;
 ghost use mathlib.Core.Path.{_≡_};
@@ -26,9 +26,9 @@ ghost use Rattle.entries.specs.Entry.{made, fcdOf, causeEvent, causeEntr
 
 // The FCD entry after a step's save: it works on the state that the step had reached.
 pub fn enter_fcd(
-    base: u32,
+    base: Address,
     window: &mut [u8],
-    base2: u32,
+    base2: Address,
     window2: &mut [u8],
     d: &mut [u32; 16],
     a: &mut [u32; 16],
@@ -36,12 +36,12 @@ pub fn enter_fcd(
 ) -> Ending
     ensures { λ r. ⌜ made r (registers (now (d .exit)) (now (a .exit)) (now (core .exit))) (lent base (now (window .exit)) base2 (now (window2 .exit))) ≡ fcdOf (registers (now (d .entry)) (now (a .entry)) (now (core .entry))) (lent base (now (window .entry)) base2 (now (window2 .entry))) ⌝ }
 {
-    match find(base, window, base2, window2, core[FCX]) {
+    let l = link_of(core[FCX]);
+    match find(base, window, base2, window2, l) {
         Room::Stops(s) => Ending::Stopped(s),
         Room::At(_) => {
-            let l = link_of(core[FCX]);
-            let at = spot_of(Address(base), window, Address(base2), window2, l);
-            let next = next_link(Address(base), window, Address(base2), window2, l);
+            let at = spot_of(base, window, base2, window2, l);
+            let next = next_link(base, window, base2, window2, l);
             let words = upper(d, a, core);
             take(window, window2, core, at, Half::Upper, words, next);
             let pc = core[PC];
@@ -79,9 +79,9 @@ fn set_entry(d: &mut [u32; 16], a: &mut [u32; 16], core: &mut [u32; 10], cause: 
 
 // An entry. One function for both causes: the run's loop calls it, and holds none of its work.
 fn enter(
-    base: u32,
+    base: Address,
     window: &mut [u8],
-    base2: u32,
+    base2: Address,
     window2: &mut [u8],
     d: &mut [u32; 16],
     a: &mut [u32; 16],
@@ -105,9 +105,9 @@ fn enter(
 
 // A trap, with the return address.
 pub fn trap(
-    base: u32,
+    base: Address,
     window: &mut [u8],
-    base2: u32,
+    base2: Address,
     window2: &mut [u8],
     d: &mut [u32; 16],
     a: &mut [u32; 16],
@@ -131,9 +131,9 @@ pub fn trap(
 
 // An interrupt from a source, with its priority number.
 pub fn interrupt(
-    base: u32,
+    base: Address,
     window: &mut [u8],
-    base2: u32,
+    base2: Address,
     window2: &mut [u8],
     d: &mut [u32; 16],
     a: &mut [u32; 16],

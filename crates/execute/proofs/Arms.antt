@@ -5,6 +5,7 @@ use mathlib.Core.Path.{_≡_, refl, sym, ap, subst, _∙_}
 use mathlib.Core.Bool.{Bool, true, false}
 use mathlib.Core.List.{List}
 use Rattle.words.proofs.Truth.{never}
+use Rattle.fields.specs.Link.{linkOf}
 use Rattle.fields.specs.Psw.{PSW·PRS}
 use Rattle.fields.proofs.RangeSets.{prs-flagged, prs-overflowed}
 use Rattle.integer.specs.declared.Integer.{Integer}
@@ -138,7 +139,7 @@ module _ (r : Registers) where
 
   fcd-entered : (q : Registers) (m : Memory) → Entered (fcdOf q m)
   unfolding fcdOf
-  fcd-entered q m = by (roomOf m (fcx q))
+  fcd-entered q m = by (roomOf m (linkOf (fcx q)))
     where
       by : (s : Room) → Entered (fcdBy q m s)
       by (room.Stops s) = refl

@@ -11,6 +11,7 @@ use events::event::Event;
 use events::event::passed_on;
 use image::fetch::Instruction;
 use jumps::execute_jump;
+use memory::address::Address;
 use moves::execute_integer;
 use moves::execute_move;
 use operations::Operation;
@@ -53,9 +54,9 @@ pub fn steady(x: Executed) -> bool
 
 // Decides what an instruction does, and performs it.
 fn perform(
-    base: u32,
+    base: Address,
     window: &mut [u8],
-    base2: u32,
+    base2: Address,
     window2: &mut [u8],
     d: &mut [u32; 16],
     a: &mut [u32; 16],
@@ -98,9 +99,9 @@ fn perform(
 
 // The entry that follows, if any.
 fn finish(
-    base: u32,
+    base: Address,
     window: &mut [u8],
-    base2: u32,
+    base2: Address,
     window2: &mut [u8],
     d: &mut [u32; 16],
     a: &mut [u32; 16],
@@ -139,9 +140,9 @@ fn is_done(how: How) -> bool
 
 // An instruction with its traps.
 pub fn execute_instruction(
-    base: u32,
+    base: Address,
     window: &mut [u8],
-    base2: u32,
+    base2: Address,
     window2: &mut [u8],
     d: &mut [u32; 16],
     a: &mut [u32; 16],

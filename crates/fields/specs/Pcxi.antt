@@ -4,6 +4,7 @@ use mathlib.Core.Bool.{Bool}
 use Rattle.words.specs.Bits.{number}
 use Rattle.fields.specs.Field.{isSet, field}
 use Rattle.fields.specs.Icr.{ICR·IE, ICR·CCPN}
+use Rattle.fields.specs.declared.link.Link.{Link}
 
 -- the previous CPU priority number
 abbrev pub PCXI·PCPN : ℕ → ℕ
@@ -17,6 +18,6 @@ PCXI·PIE pcxi = isSet 23 pcxi
 abbrev pub PCXI·UL : ℕ → Bool
 PCXI·UL pcxi = isSet 22 pcxi
 
--- what a save sets: PCPN = CCPN, PIE = IE, UL, and the link of the area taken, which FCX holds
-unfoldable pub pcxiOf : ℕ → Bool → ℕ → ℕ
-pcxiOf icr ul fcx = ICR·CCPN icr * 2 ^ 24 + number (ICR·IE icr) * 2 ^ 23 + number ul * 2 ^ 22 + fcx % 2 ^ 20
+-- what a save sets: PCPN = CCPN, PIE = IE, UL, and the link of the area taken
+unfoldable pub pcxiOf : ℕ → Bool → Link → ℕ
+pcxiOf icr ul l = ICR·CCPN icr * 2 ^ 24 + number (ICR·IE icr) * 2 ^ 23 + number ul * 2 ^ 22 + l .0

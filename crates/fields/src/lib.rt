@@ -2,6 +2,7 @@
 
 pub mod depth;
 pub mod icr;
+pub mod link;
 pub mod pcxi;
 pub mod psw;
 pub mod request;

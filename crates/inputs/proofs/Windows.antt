@@ -10,13 +10,14 @@ use lib.Dec.{leb, eqb}
 use borrow.Author.Tests.{leb-true, eqb-true, le-leb, eq-eqb}
 use Rattle.words.proofs.Truth.{never, both-true, either-true}
 use Rattle.memory.specs.Memory.{Memory, firstLength, secondLength}
+use Rattle.memory.specs.declared.address.Address.{Address}
 use Rattle.inputs.specs.Checks.{windowHolds, secondHolds, apartHolds, windowsVerdict, windowVerdict}
 use Rattle.inputs.specs.Rules.{WindowRight, WindowsRight, WindowsApart, WindowsHold}
 use Rattle.inputs.specs.declared.verdict.Verdict.{Verdict}
 use Rattle.inputs.specs.declared.verdict.Verdict.the-variants.{Accepted, Refused}
 use Rattle.inputs.specs.declared.verdict.Refusal.the-variants.{Window, Overlap}
 
-module _ (base len : ℕ) where
+module _ (base : Address) (len : ℕ) where
   pub window-right : windowHolds base len ≡ true → WindowRight base len
   unfolding windowHolds
   window-right h =
@@ -26,24 +27,24 @@ module _ (base len : ℕ) where
       let p3 = both-true _ _ (p4 .0) in
       let p2 = both-true _ _ (p3 .0) in
       record {
-        aligned = eqb-true (base % 64) 0 (p2 .0);
+        aligned = eqb-true (base .0 % 64) 0 (p2 .0);
         areas = eqb-true (len % 64) 0 (p2 .1);
         some = leb-true 1 len (p3 .1);
         most = leb-true len 0x1_0000 (p4 .1);
-        below-E = leb-true (base / 2 ^ 28) 13 (p5 .1);
-        one-segment = leb-true (base % 2 ^ 28 + len) (2 ^ 28) (p6 .1);
+        below-E = leb-true (base .0 / 2 ^ 28) 13 (p5 .1);
+        one-segment = leb-true (base .0 % 2 ^ 28 + len) (2 ^ 28) (p6 .1);
       }
 
   right-window : WindowRight base len → windowHolds base len ≡ true
   unfolding windowHolds
   right-window r =
       rw (
-        eq-eqb (base % 64) 0 (r .aligned),
+        eq-eqb (base .0 % 64) 0 (r .aligned),
         eq-eqb (len % 64) 0 (r .areas),
         le-leb 1 len (r .some),
         le-leb len 0x1_0000 (r .most),
-        le-leb (base / 2 ^ 28) 13 (r .below-E),
-        le-leb (base % 2 ^ 28 + len) (2 ^ 28) (r .one-segment),
+        le-leb (base .0 / 2 ^ 28) 13 (r .below-E),
+        le-leb (base .0 % 2 ^ 28 + len) (2 ^ 28) (r .one-segment),
       )
 
   -- the second window
@@ -60,7 +61,7 @@ module _ (base len : ℕ) where
   second-most h = ⊎-elim (λ e. omega arith) (λ r. r .most) (second-right h)
 
 -- ---- both, and rule 13
-module _ (base len base2 len2 : ℕ) where
+module _ (base : Address) (len : ℕ) (base2 : Address) (len2 : ℕ) where
   apart-right : apartHolds base len base2 len2 ≡ true → WindowsApart base len base2 len2
   unfolding apartHolds
   apart-right h =
@@ -68,16 +69,16 @@ module _ (base len base2 len2 : ℕ) where
       (λ p.
       ⊎-elim
       (λ e. inl (eqb-true len2 0 e))
-      (λ e. inr (inl (leb-true (base + len) base2 e)))
-      (either-true (eqb len2 0) (leb (base + len) base2) p))
-      (λ e. inr (inr (leb-true (base2 + len2) base e)))
-      (either-true (eqb len2 0 || leb (base + len) base2) (leb (base2 + len2) base) h)
+      (λ e. inr (inl (leb-true (base .0 + len) (base2 .0) e)))
+      (either-true (eqb len2 0) (leb (base .0 + len) (base2 .0)) p))
+      (λ e. inr (inr (leb-true (base2 .0 + len2) (base .0) e)))
+      (either-true (eqb len2 0 || leb (base .0 + len) (base2 .0)) (leb (base2 .0 + len2) (base .0)) h)
 
   right-apart : WindowsApart base len base2 len2 → apartHolds base len base2 len2 ≡ true
   unfolding apartHolds
   right-apart (inl e) = rw (eq-eqb len2 0 e)
-  right-apart (inr (inl x)) = rw (le-leb (base + len) base2 x, or-true)
-  right-apart (inr (inr x)) = rw (le-leb (base2 + len2) base x, or-true)
+  right-apart (inr (inl x)) = rw (le-leb (base .0 + len) (base2 .0) x, or-true)
+  right-apart (inr (inr x)) = rw (le-leb (base2 .0 + len2) (base .0) x, or-true)
 
   -- the verdict on the windows
   pub data WindowsCome (v : Verdict) : Type 0 where

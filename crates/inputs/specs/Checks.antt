@@ -5,6 +5,7 @@ use mathlib.Core.List.{List}
 use lib.ListN.{length}
 use lib.Dec.{leb, eqb}
 use Rattle.memory.specs.Memory.{Memory, firstLength, secondLength}
+use Rattle.memory.specs.declared.address.Address.{Address}
 use Rattle.lists.specs.Walk.{listsOf}
 use Rattle.lists.specs.declared.ListEnd.{ListEnd}
 use Rattle.lists.specs.declared.ListEnd.the-variants as list
@@ -22,20 +23,20 @@ andThen Accepted v = v
 andThen (Refused r) v = Refused r
 
 -- 1: base and length are multiples of 64, the length is 1 to 65,536, and the window lies within one segment below E
-unfoldable pub windowHolds : ℕ → ℕ → Bool
+unfoldable pub windowHolds : Address → ℕ → Bool
 windowHolds base len =
-    eqb (base % 64) 0 && eqb (len % 64) 0 && leb 1 len && leb len 0x1_0000 && leb (base / 2 ^ 28) 13 && leb (base % 2 ^ 28 + len) (2 ^ 28)
+    eqb (base .0 % 64) 0 && eqb (len % 64) 0 && leb 1 len && leb len 0x1_0000 && leb (base .0 / 2 ^ 28) 13 && leb (base .0 % 2 ^ 28 + len) (2 ^ 28)
 
 -- a second window without bytes passes
-unfoldable pub secondHolds : ℕ → ℕ → Bool
+unfoldable pub secondHolds : Address → ℕ → Bool
 secondHolds base len = eqb len 0 || windowHolds base len
 
 -- 13: the windows do not overlap. A second window without bytes passes
-unfoldable pub apartHolds : ℕ → ℕ → ℕ → ℕ → Bool
-apartHolds base len base2 len2 = eqb len2 0 || leb (base + len) base2 || leb (base2 + len2) base
+unfoldable pub apartHolds : Address → ℕ → Address → ℕ → Bool
+apartHolds base len base2 len2 = eqb len2 0 || leb (base .0 + len) (base2 .0) || leb (base2 .0 + len2) (base .0)
 
 -- 1 is tried on each window in turn, then 13
-unfoldable pub windowsVerdict : ℕ → ℕ → ℕ → ℕ → Verdict
+unfoldable pub windowsVerdict : Address → ℕ → Address → ℕ → Verdict
 windowsVerdict base len base2 len2 =
     andThen (cond (windowHolds base len) Accepted (Refused Window))
     (andThen (cond (secondHolds base2 len2) Accepted (Refused Window)) (cond (apartHolds base len base2 len2) Accepted (Refused Overlap)))

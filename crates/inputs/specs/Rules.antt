@@ -5,6 +5,7 @@ use mathlib.Core.Logic.{_⊎_}
 use mathlib.Core.List.{List}
 use lib.ListN.{length}
 use Rattle.memory.specs.Memory.{Memory, firstLength, secondLength}
+use Rattle.memory.specs.declared.address.Address.{Address}
 use Rattle.lists.specs.Lists.{Sound, ListsCome}
 use Rattle.lists.specs.declared.ListEnd.the-variants as list
 use Rattle.image.specs.Rules.{ImageRight, TableFault, RecordFault}
@@ -13,22 +14,22 @@ use Rattle.inputs.specs.declared.verdict.Verdict.the-variants.{Accepted,
 use Rattle.inputs.specs.declared.verdict.Refusal.the-variants.{Window, Overlap, Table, Record, OddPc, LinkOutside, MetAgain}
 
 -- rule 1, of one window. A segment is all addresses with the same bits 31:28
-pub record WindowRight (base len : ℕ) : Type 0 where
-  pub aligned : base % 64 ≡ 0
+pub record WindowRight (base : Address) (len : ℕ) : Type 0 where
+  pub aligned : base .0 % 64 ≡ 0
   pub areas : len % 64 ≡ 0
   pub some : 1 ≤ len
   pub most : len ≤ 0x1_0000
-  pub below-E : base / 2 ^ 28 ≤ 13
-  pub one-segment : base % 2 ^ 28 + len ≤ 2 ^ 28
+  pub below-E : base .0 / 2 ^ 28 ≤ 13
+  pub one-segment : base .0 % 2 ^ 28 + len ≤ 2 ^ 28
 
 -- of both: the second may have no bytes
-pub record WindowsRight (base len base2 len2 : ℕ) : Type 0 where
+pub record WindowsRight (base : Address) (len : ℕ) (base2 : Address) (len2 : ℕ) : Type 0 where
   pub first : WindowRight base len
   pub second : (len2 ≡ 0) ⊎ WindowRight base2 len2
 
 -- rule 13: the second window has no bytes, or the last byte of one lies before the first byte of the other
-abbrev pub WindowsApart : ℕ → ℕ → ℕ → ℕ → Type 0
-WindowsApart base len base2 len2 = (len2 ≡ 0) ⊎ (base + len ≤ base2) ⊎ (base2 + len2 ≤ base)
+abbrev pub WindowsApart : Address → ℕ → Address → ℕ → Type 0
+WindowsApart base len base2 len2 = (len2 ≡ 0) ⊎ (base .0 + len ≤ base2 .0) ⊎ (base2 .0 + len2 ≤ base .0)
 
 -- of the windows of a memory
 abbrev pub RightOf : Memory → Type 0

@@ -2,9 +2,9 @@
 
 use crate::verdict::Refusal;
 use crate::verdict::Verdict;
-use areas::link::Address;
 use image::records::ImageCheck;
 use lists::ListEnd;
+use memory::address::Address;
 ghost use mathlib.Core.Path.{_≡_};
 ghost use mathlib.Core.List.{List, _++_};
 ghost use Prim.Native.Nat.{ℕ, _≤_};
@@ -18,7 +18,7 @@ ghost use Rattle.words.specs.Exactly.{Exactly};
 
 // Rule 1: where a window lies, and its length.
 fn window_holds(base: Address, len: usize) -> bool
-    ensures { λ r. ⌜ r ≡ windowHolds (base .0) len ⌝ }
+    ensures { λ r. ⌜ r ≡ windowHolds base len ⌝ }
 {
     if base.0 % 64 != 0 {
         return false;
@@ -40,7 +40,7 @@ fn window_holds(base: Address, len: usize) -> bool
 
 // Rule 1 of the second window, which may have no bytes.
 fn second_holds(base: Address, len: usize) -> bool
-    ensures { λ r. ⌜ r ≡ secondHolds (base .0) len ⌝ }
+    ensures { λ r. ⌜ r ≡ secondHolds base len ⌝ }
 {
     if len == 0 {
         return true;
@@ -51,7 +51,7 @@ fn second_holds(base: Address, len: usize) -> bool
 // Rule 13: the windows do not overlap.
 fn apart_holds(base: Address, len: usize, base2: Address, len2: usize) -> bool
     requires { ⌜ (len ≤ 65536) × (len2 ≤ 65536) ⌝ }
-    ensures { λ r. ⌜ r ≡ apartHolds (base .0) len (base2 .0) len2 ⌝ }
+    ensures { λ r. ⌜ r ≡ apartHolds base len base2 len2 ⌝ }
 {
     if len2 == 0 {
         return true;
@@ -64,7 +64,7 @@ fn apart_holds(base: Address, len: usize, base2: Address, len2: usize) -> bool
 
 // Rule 1 on each window in turn, then rule 13.
 fn try_windows(base: Address, len: usize, base2: Address, len2: usize) -> Verdict
-    ensures { λ r. ⌜ r ≡ windowsVerdict (base .0) len (base2 .0) len2 ⌝ }
+    ensures { λ r. ⌜ r ≡ windowsVerdict base len base2 len2 ⌝ }
 {
     if window_holds(base, len) {
         if second_holds(base2, len2) {
@@ -80,7 +80,7 @@ fn try_windows(base: Address, len: usize, base2: Address, len2: usize) -> Verdic
 
 // Rules 1 and 13.
 pub fn check_windows(base: Address, window: &[u8], base2: Address, window2: &[u8]) -> Verdict
-    ensures { λ r. ⌜ (r ≡ windowVerdict (lent (base .0) (now (window .entry)) (base2 .0) (now (window2 .entry)))) × Exactly (WindowsSay (lent (base .0) (now (window .entry)) (base2 .0) (now (window2 .entry)))) r ⌝ }
+    ensures { λ r. ⌜ (r ≡ windowVerdict (lent base (now (window .entry)) base2 (now (window2 .entry)))) × Exactly (WindowsSay (lent base (now (window .entry)) base2 (now (window2 .entry)))) r ⌝ }
     ensures unchanged { λ _. ⌜ (now (window .exit) ≡ now (window .entry)) × (now (window2 .exit) ≡ now (window2 .entry)) ⌝ }
 {
     try_windows(base, window.len(), base2, window2.len())
@@ -124,7 +124,7 @@ pub fn check_lists<'a>(
     fcx: u32,
     pcxi: u32,
 ) -> Verdict
-    ensures { λ r. ⌜ (r ≡ listsVerdict (lent (base .0) (now (window .entry)) (base2 .0) (now (window2 .entry))) fcx pcxi) × Exactly (ListsSay (lent (base .0) (now (window .entry)) (base2 .0) (now (window2 .entry))) fcx pcxi) r ⌝ }
+    ensures { λ r. ⌜ (r ≡ listsVerdict (lent base (now (window .entry)) base2 (now (window2 .entry))) fcx pcxi) × Exactly (ListsSay (lent base (now (window .entry)) base2 (now (window2 .entry))) fcx pcxi) r ⌝ }
     ensures unchanged { λ _. ⌜ (now (window .exit) ≡ now (window .entry)) × (now (window2 .exit) ≡ now (window2 .entry)) ⌝ }
 {
     match check_windows(base, window, base2, window2) {
@@ -142,7 +142,7 @@ fn try_lists<'a>(
     pcxi: u32,
 ) -> Verdict
     requires { ⌜ length (now window ++ now window2) ≤ 0x2_0000 ⌝ }
-    ensures { λ r. ⌜ r ≡ listsSaid (listsOf (lent (base .0) (now (window .entry)) (base2 .0) (now (window2 .entry))) fcx pcxi) ⌝ }
+    ensures { λ r. ⌜ r ≡ listsSaid (listsOf (lent base (now (window .entry)) base2 (now (window2 .entry))) fcx pcxi) ⌝ }
 {
     match lists::check(base, window, base2, window2, fcx, pcxi) {
         ListEnd::Whole => Verdict::Accepted,
@@ -197,7 +197,7 @@ pub fn scan_step(
     image: &[u8],
     pc: u32,
 ) -> Tried
-    ensures { λ r. ⌜ (r .verdict ≡ stepVerdict (lent (base .0) (now (window .entry)) (base2 .0) (now (window2 .entry))) (now (image .entry)) pc) × Exactly (StepSays (lent (base .0) (now (window .entry)) (base2 .0) (now (window2 .entry))) (now (image .entry)) pc) (r .verdict) × (r .long ≡ longTold (now (image .entry)) (r .verdict)) ⌝ }
+    ensures { λ r. ⌜ (r .verdict ≡ stepVerdict (lent base (now (window .entry)) base2 (now (window2 .entry))) (now (image .entry)) pc) × Exactly (StepSays (lent base (now (window .entry)) base2 (now (window2 .entry))) (now (image .entry)) pc) (r .verdict) × (r .long ≡ longTold (now (image .entry)) (r .verdict)) ⌝ }
     ensures unchanged { λ _. ⌜ (now (window .exit) ≡ now (window .entry)) × (now (window2 .exit) ≡ now (window2 .entry)) × (now (image .exit) ≡ now (image .entry)) ⌝ }
 {
     match check_windows(base, window, base2, window2) {
@@ -217,7 +217,7 @@ pub fn try_step(
     image: &[u8],
     pc: u32,
 ) -> Verdict
-    ensures { λ r. ⌜ (r ≡ stepVerdict (lent (base .0) (now (window .entry)) (base2 .0) (now (window2 .entry))) (now (image .entry)) pc) × Exactly (StepSays (lent (base .0) (now (window .entry)) (base2 .0) (now (window2 .entry))) (now (image .entry)) pc) r ⌝ }
+    ensures { λ r. ⌜ (r ≡ stepVerdict (lent base (now (window .entry)) base2 (now (window2 .entry))) (now (image .entry)) pc) × Exactly (StepSays (lent base (now (window .entry)) base2 (now (window2 .entry))) (now (image .entry)) pc) r ⌝ }
     ensures unchanged { λ _. ⌜ (now (window .exit) ≡ now (window .entry)) × (now (window2 .exit) ≡ now (window2 .entry)) × (now (image .exit) ≡ now (image .entry)) ⌝ }
 {
     scan_step(base, window, base2, window2, image, pc).verdict
@@ -234,7 +234,7 @@ pub fn try_start<'a>(
     fcx: u32,
     pcxi: u32,
 ) -> Verdict
-    ensures { λ r. ⌜ (r ≡ startVerdict (lent (base .0) (now (window .entry)) (base2 .0) (now (window2 .entry))) (now (image .entry)) pc fcx pcxi) × Exactly (StartSays (lent (base .0) (now (window .entry)) (base2 .0) (now (window2 .entry))) (now (image .entry)) pc fcx pcxi) r ⌝ }
+    ensures { λ r. ⌜ (r ≡ startVerdict (lent base (now (window .entry)) base2 (now (window2 .entry))) (now (image .entry)) pc fcx pcxi) × Exactly (StartSays (lent base (now (window .entry)) base2 (now (window2 .entry))) (now (image .entry)) pc fcx pcxi) r ⌝ }
     ensures unchanged { λ _. ⌜ (now (window .exit) ≡ now (window .entry)) × (now (window2 .exit) ≡ now (window2 .entry)) × (now (image .exit) ≡ now (image .entry)) ⌝ }
 {
     match try_step(base, window, base2, window2, image, pc) {

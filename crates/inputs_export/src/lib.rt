@@ -1,13 +1,14 @@
 // The checks of the inputs and the fetch for the tests: exported functions on numbers and byte slices.
 
-use areas::link::Address;
 use image::fetch::Fetched;
 use image::fetch::fetch;
 use inputs::checks;
 use inputs::verdict::Verdict;
 use inputs::verdict::fault;
 use inputs::verdict::number;
+use memory::address::as_address;
 ghost use mathlib.Core.Path.{_≡_};
+ghost use Rattle.memory.specs.Address.{asAddress};
 ghost use Rattle.memory.specs.Memory.{lent};
 ghost use Rattle.image.specs.Records.{ImageHolds};
 ghost use Rattle.words.specs.Exactly.{Tells};
@@ -41,9 +42,11 @@ pub extern "C" fn deqbaryn_check_lists<'a>(
     fcx: u32,
     pcxi: u32,
 ) -> u64
-    ensures { λ r. ⌜ (r ≡ verdictOf (listsVerdict (lent base (now (window .entry)) base2 (now (window2 .entry))) fcx pcxi)) × Tells verdictOf (ListsSay (lent base (now (window .entry)) base2 (now (window2 .entry))) fcx pcxi) r ⌝ }
+    ensures { λ r. ⌜ (r ≡ verdictOf (listsVerdict (lent (asAddress base) (now (window .entry)) (asAddress base2) (now (window2 .entry))) fcx pcxi)) × Tells verdictOf (ListsSay (lent (asAddress base) (now (window .entry)) (asAddress base2) (now (window2 .entry))) fcx pcxi) r ⌝ }
 {
-    packed(checks::check_lists(Address(base), window, Address(base2), window2, fcx, pcxi))
+    let first = as_address(base);
+    let second = as_address(base2);
+    packed(checks::check_lists(first, window, second, window2, fcx, pcxi))
 }
 
 #[no_mangle]
@@ -55,9 +58,11 @@ pub extern "C" fn deqbaryn_try_step(
     image: &[u8],
     pc: u32,
 ) -> u64
-    ensures { λ r. ⌜ (r ≡ verdictOf (stepVerdict (lent base (now (window .entry)) base2 (now (window2 .entry))) (now (image .entry)) pc)) × Tells verdictOf (StepSays (lent base (now (window .entry)) base2 (now (window2 .entry))) (now (image .entry)) pc) r ⌝ }
+    ensures { λ r. ⌜ (r ≡ verdictOf (stepVerdict (lent (asAddress base) (now (window .entry)) (asAddress base2) (now (window2 .entry))) (now (image .entry)) pc)) × Tells verdictOf (StepSays (lent (asAddress base) (now (window .entry)) (asAddress base2) (now (window2 .entry))) (now (image .entry)) pc) r ⌝ }
 {
-    packed(checks::try_step(Address(base), window, Address(base2), window2, image, pc))
+    let first = as_address(base);
+    let second = as_address(base2);
+    packed(checks::try_step(first, window, second, window2, image, pc))
 }
 
 #[no_mangle]
@@ -71,18 +76,11 @@ pub extern "C" fn deqbaryn_try_start<'a>(
     fcx: u32,
     pcxi: u32,
 ) -> u64
-    ensures { λ r. ⌜ (r ≡ verdictOf (startVerdict (lent base (now (window .entry)) base2 (now (window2 .entry))) (now (image .entry)) pc fcx pcxi)) × Tells verdictOf (StartSays (lent base (now (window .entry)) base2 (now (window2 .entry))) (now (image .entry)) pc fcx pcxi) r ⌝ }
+    ensures { λ r. ⌜ (r ≡ verdictOf (startVerdict (lent (asAddress base) (now (window .entry)) (asAddress base2) (now (window2 .entry))) (now (image .entry)) pc fcx pcxi)) × Tells verdictOf (StartSays (lent (asAddress base) (now (window .entry)) (asAddress base2) (now (window2 .entry))) (now (image .entry)) pc fcx pcxi) r ⌝ }
 {
-    packed(checks::try_start(
-        Address(base),
-        window,
-        Address(base2),
-        window2,
-        image,
-        pc,
-        fcx,
-        pcxi,
-    ))
+    let first = as_address(base);
+    let second = as_address(base2);
+    packed(checks::try_start(first, window, second, window2, image, pc, fcx, pcxi))
 }
 
 // The record at pc of an accepted image: how many addresses it covers, c, a, b from the lowest byte on, and the immediate in the high word. 0 where no record begins there, or the image is refused.

@@ -10,10 +10,11 @@ use Rattle.words.proofs.Truth.{never}
 use lib.ListN.{length, getD, set, length-set}
 use Rattle.memory.specs.Memory.{Memory}
 use Rattle.memory.specs.Word.{wordAt}
-use Rattle.areas.specs.Link.{linkOf, addressOf}
+use Rattle.fields.specs.Link.{linkOf}
+use Rattle.areas.specs.Link.{areaAddress}
 use Rattle.areas.specs.Place.{placeOf}
 use Rattle.lists.specs.Walk.{Walked, walkOf}
-use Rattle.areas.specs.declared.link.Link.{Link}
+use Rattle.fields.specs.declared.link.Link.{Link}
 use Rattle.areas.specs.declared.link.Place.{Place}
 use Rattle.areas.specs.declared.link.Place.the-variants.{At, Outside}
 use Rattle.areas.proofs.Places.{placed-at}
@@ -63,7 +64,7 @@ unmet-set (false ∷ s) (suc k) h e = ap suc (unmet-set s k (omega arith) e)
 
 -- the place of an area among the marks
 pub mark-in : (m : Memory) (l : Link) (met : List Bool) (at : ℕ) → length (m .bytes) ≤ 131072 → length met ≡ 2048 → placeOf m l ≡ At at → at / 64 < length met
-mark-in m l met at hm hs p = omega (arith, placed-at (m .windows) (length (m .bytes)) (addressOf l) at p .inside)
+mark-in m l met at hm hs p = omega (arith, placed-at (m .windows) (length (m .bytes)) (areaAddress l) at p .inside)
 
 pub walk-enough : (f : ℕ) (m : Memory) (l : Link) (met : List Bool) → length (m .bytes) ≤ 131072 → length met ≡ 2048 → unmet met < f
     → walkOf (suc f) m l met ≡ walkOf f m l met

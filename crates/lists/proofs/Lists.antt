@@ -10,11 +10,11 @@ use lib.ListN.{length, getD, set, replicate, length-set, getD-replicate}
 use lib.Seq.{getD-set-same, getD-set-other}
 use Rattle.memory.specs.Memory.{Memory}
 use Rattle.memory.specs.Word.{wordAt}
-use Rattle.areas.specs.Link.{linkOf}
+use Rattle.fields.specs.Link.{linkOf}
 use Rattle.areas.specs.Place.{placeOf}
 use Rattle.lists.specs.Walk.{Walked, walked, walkOf, thenUsed, listsOf}
 use Rattle.lists.specs.Lists.{Leads, one, count, Sound, Why, Comes, ListsCome, at-free, at-used}
-use Rattle.areas.specs.declared.link.Link.{Link}
+use Rattle.fields.specs.declared.link.Link.{Link}
 use Rattle.areas.specs.declared.link.Place.the-variants.{At, Outside}
 use Rattle.lists.specs.declared.ListEnd.{ListEnd}
 use Rattle.lists.specs.declared.ListEnd.the-variants.{Whole, LinkOutside, MetAgain}

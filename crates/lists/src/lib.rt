@@ -1,11 +1,11 @@
 // The lists of context save areas and their check: each link lies in one of the two windows, and no area is met a second time.
 
 use areas::area::next_link;
-use areas::link::Address;
-use areas::link::Link;
 use areas::link::Place;
-use areas::link::link_of;
 use areas::link::locate;
+use fields::link::Link;
+use fields::link::link_of;
+use memory::address::Address;
 ghost use mathlib.Core.Path.{_≡_};
 ghost use mathlib.Core.List.{_++_};
 ghost use Prim.Native.Nat.{_≤_};
@@ -35,11 +35,11 @@ fn walk<'a>(
     met: &mut [bool; 2048],
 ) -> ListEnd
     requires { ⌜ (length (now window ++ now window2) ≤ 131072) × (length (now met) ≡ 2048) ⌝ }
-    ensures { λ r. ⌜ walked r (now (met .exit)) ≡ walkOf 2049 (lent (base .0) (now (window .entry)) (base2 .0) (now (window2 .entry))) head (now (met .entry)) ⌝ }
+    ensures { λ r. ⌜ walked r (now (met .exit)) ≡ walkOf 2049 (lent base (now (window .entry)) base2 (now (window2 .entry))) head (now (met .entry)) ⌝ }
 {
-    let mut n = head.0;
-    while n != 0 {
-        let Place::At(at) = locate(base, window, base2, window2, Link(n)) else {
+    let mut l = head;
+    while l.0 != 0 {
+        let Place::At(at) = locate(base, window, base2, window2, l) else {
             return ListEnd::LinkOutside;
         };
         let k = at / 64;
@@ -47,8 +47,7 @@ fn walk<'a>(
             return ListEnd::MetAgain;
         }
         met[k] = true;
-        let next = next_link(base, window, base2, window2, Link(n));
-        n = next.0;
+        l = next_link(base, window, base2, window2, l);
     }
     ListEnd::Whole
 }
@@ -63,7 +62,7 @@ pub fn check<'a>(
     pcxi: u32,
 ) -> ListEnd
     requires { ⌜ length (now window ++ now window2) ≤ 131072 ⌝ }
-    ensures { λ r. ⌜ (r ≡ listsOf (lent (base .0) (now (window .entry)) (base2 .0) (now (window2 .entry))) fcx pcxi) × Exactly (ListsCome (lent (base .0) (now (window .entry)) (base2 .0) (now (window2 .entry))) fcx pcxi) r ⌝ }
+    ensures { λ r. ⌜ (r ≡ listsOf (lent base (now (window .entry)) base2 (now (window2 .entry))) fcx pcxi) × Exactly (ListsCome (lent base (now (window .entry)) base2 (now (window2 .entry))) fcx pcxi) r ⌝ }
 {
     let mut met = [false; 2048];
     let free = walk(base, window, base2, window2, link_of(fcx), &mut met);

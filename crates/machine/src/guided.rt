@@ -4,6 +4,7 @@ use crate::run_steps::Went;
 use crate::run_steps::run_steps;
 use image::marks::Guide;
 use image::marks::mark_image;
+use memory::address::Address;
 ghost use mathlib.Core.Path.{_≡_};
 ghost use mathlib.Core.Bool.{true};
 ghost use Rattle.memory.specs.Memory.{lent};
@@ -21,9 +22,9 @@ const MARKED: u32 = 64;
 
 // n steps of an image with short forms, with marks.
 fn run_marked(
-    base: u32,
+    base: Address,
     window: &mut [u8],
-    base2: u32,
+    base2: Address,
     window2: &mut [u8],
     image: &[u8],
     d: &mut [u32; 16],
@@ -60,9 +61,9 @@ fn run_marked(
 
 // n steps of an image of which it is known whether it has no short form.
 pub fn run_guided(
-    base: u32,
+    base: Address,
     window: &mut [u8],
-    base2: u32,
+    base2: Address,
     window2: &mut [u8],
     image: &[u8],
     long: bool,

@@ -9,6 +9,7 @@ use image::fetch::index_from;
 use image::fetch::next_after;
 use image::fetch::read_record;
 use image::marks::Guide;
+use memory::address::Address;
 use registers::PC;
 use spans::Ahead;
 use spans::Span;
@@ -31,9 +32,9 @@ pub struct Paced {
 
 // Instructions of a span from PC on, up to n: to the first that is not steady, or whose successor lies outside the span. Long records are found by their index k from one byte on, and end 4 addresses on; that sum stands before the test, where it costs least. Others are found by their byte, and the address after one is kept for finding its successor.
 fn steady_steps(
-    base: u32,
+    base: Address,
     window: &mut [u8],
-    base2: u32,
+    base2: Address,
     window2: &mut [u8],
     image: &[u8],
     guide: Guide,
@@ -117,9 +118,9 @@ fn after_one(ending: Ending, n: u32) -> Paced
 
 // Up to n instructions, where no interrupt is taken before the first: at least one, unless it stops.
 pub fn instructions(
-    base: u32,
+    base: Address,
     window: &mut [u8],
-    base2: u32,
+    base2: Address,
     window2: &mut [u8],
     image: &[u8],
     guide: Guide,

@@ -10,6 +10,7 @@ use interrupts::Best;
 use interrupts::best_source;
 use interrupts::clear;
 use interrupts::taken;
+use memory::address::Address;
 use registers::ICR;
 ghost use mathlib.Core.Path.{_≡_};
 ghost use Rattle.memory.specs.Memory.{lent};
@@ -45,9 +46,9 @@ pub struct Went {
 
 // n steps, to the first stop.
 fn run_by_reference(
-    base: u32,
+    base: Address,
     window: &mut [u8],
-    base2: u32,
+    base2: Address,
     window2: &mut [u8],
     image: &[u8],
     guide: Guide,
@@ -123,9 +124,9 @@ fn run_by_reference(
 
 // The same. The registers are copied: the loop then works on variables that nothing else that is lent can overlap.
 pub fn run_steps(
-    base: u32,
+    base: Address,
     window: &mut [u8],
-    base2: u32,
+    base2: Address,
     window2: &mut [u8],
     image: &[u8],
     guide: Guide,

@@ -6,10 +6,10 @@ use crate::answer::Stepped;
 use crate::answer::outcome_of;
 use crate::guided::run_guided;
 use crate::run_steps::run_steps;
-use areas::link::Address;
 use image::marks::Guide;
 use inputs::checks::scan_step;
 use inputs::verdict::Verdict;
+use memory::address::Address;
 use permits::Permits;
 use permits::permits_of;
 use protection::range::Permit;
@@ -40,10 +40,10 @@ pub fn step_accepted(
     requests: [u32; 16],
     ranges: [Range; 32],
 ) -> Stepped
-    requires { ⌜ Ready (now image) registers (lent (base .0) (now window) (base2 .0) (now window2)) ⌝ }
+    requires { ⌜ Ready (now image) registers (lent base (now window) base2 (now window2)) ⌝ }
     requires { ⌜ (long ≡ true → longOnly (now image) ≡ true) ⌝ }
-    ensures { λ r. ⌜ stepped (r .outcome) (r .registers) (r .requests) (lent (base .0) (now (window .exit)) (base2 .0) (now (window2 .exit))) (r .permits) ≡ stepOf (now (image .entry)) registers requests ranges (lent (base .0) (now (window .entry)) (base2 .0) (now (window2 .entry))) ⌝ }
-    ensures { λ r. ⌜ Ready (now (image .entry)) (r .registers) (lent (base .0) (now (window .exit)) (base2 .0) (now (window2 .exit))) ⌝ }
+    ensures { λ r. ⌜ stepped (r .outcome) (r .registers) (r .requests) (lent base (now (window .exit)) base2 (now (window2 .exit))) (r .permits) ≡ stepOf (now (image .entry)) registers requests ranges (lent base (now (window .entry)) base2 (now (window2 .entry))) ⌝ }
+    ensures { λ r. ⌜ Ready (now (image .entry)) (r .registers) (lent base (now (window .exit)) base2 (now (window2 .exit))) ⌝ }
 {
     let words = flat(ranges);
     let mut d = registers.d;
@@ -53,9 +53,9 @@ pub fn step_accepted(
     let none = [0; 1];
     let p = permits_of(image, long, &a, &core, &xs, &words);
     let w = run_steps(
-        base.0,
+        base,
         window,
-        base2.0,
+        base2,
         window2,
         image,
         Guide {
@@ -94,8 +94,8 @@ pub fn step(
     requests: [u32; 16],
     ranges: [Range; 32],
 ) -> Stepped
-    ensures { λ r. ⌜ stepped (r .outcome) (r .registers) (r .requests) (lent (base .0) (now (window .exit)) (base2 .0) (now (window2 .exit))) (r .permits) ≡ stepOf (now (image .entry)) registers requests ranges (lent (base .0) (now (window .entry)) (base2 .0) (now (window2 .entry))) ⌝ }
-    ensures { λ r. ⌜ Exactly (StepSays (lent (base .0) (now (window .entry)) (base2 .0) (now (window2 .entry))) (now (image .entry)) (pc registers)) (verdictIn (r .outcome)) ⌝ }
+    ensures { λ r. ⌜ stepped (r .outcome) (r .registers) (r .requests) (lent base (now (window .exit)) base2 (now (window2 .exit))) (r .permits) ≡ stepOf (now (image .entry)) registers requests ranges (lent base (now (window .entry)) base2 (now (window2 .entry))) ⌝ }
+    ensures { λ r. ⌜ Exactly (StepSays (lent base (now (window .entry)) base2 (now (window2 .entry))) (now (image .entry)) (pc registers)) (verdictIn (r .outcome)) ⌝ }
 {
     let tried = scan_step(base, window, base2, window2, image, registers.core[PC]);
     let verdict = tried.verdict;
@@ -137,9 +137,9 @@ pub fn run(
     ranges: [Range; 32],
     n: u32,
 ) -> Ran
-    ensures { λ r. ⌜ ran (r .outcome) (r .made) (r .registers) (r .requests) (lent (base .0) (now (window .exit)) (base2 .0) (now (window2 .exit))) ≡ runOf n (now (image .entry)) registers requests ranges (lent (base .0) (now (window .entry)) (base2 .0) (now (window2 .entry))) ⌝ }
-    ensures { λ r. ⌜ RefusedKeeps registers requests (lent (base .0) (now (window .entry)) (base2 .0) (now (window2 .entry))) (ran (r .outcome) (r .made) (r .registers) (r .requests) (lent (base .0) (now (window .exit)) (base2 .0) (now (window2 .exit)))) ⌝ }
-    ensures { λ r. ⌜ Exactly (StepSays (lent (base .0) (now (window .entry)) (base2 .0) (now (window2 .entry))) (now (image .entry)) (pc registers)) (verdictIn (r .outcome)) ⌝ }
+    ensures { λ r. ⌜ ran (r .outcome) (r .made) (r .registers) (r .requests) (lent base (now (window .exit)) base2 (now (window2 .exit))) ≡ runOf n (now (image .entry)) registers requests ranges (lent base (now (window .entry)) base2 (now (window2 .entry))) ⌝ }
+    ensures { λ r. ⌜ RefusedKeeps registers requests (lent base (now (window .entry)) base2 (now (window2 .entry))) (ran (r .outcome) (r .made) (r .registers) (r .requests) (lent base (now (window .exit)) base2 (now (window2 .exit)))) ⌝ }
+    ensures { λ r. ⌜ Exactly (StepSays (lent base (now (window .entry)) base2 (now (window2 .entry))) (now (image .entry)) (pc registers)) (verdictIn (r .outcome)) ⌝ }
 {
     let tried = scan_step(base, window, base2, window2, image, registers.core[PC]);
     let verdict = tried.verdict;
@@ -157,9 +157,9 @@ pub fn run(
             let mut core = registers.core;
             let mut xs = requests;
             let w = run_guided(
-                base.0,
+                base,
                 window,
-                base2.0,
+                base2,
                 window2,
                 image,
                 tried.long,

@@ -8,6 +8,7 @@ use native.Mathlib.Omega.{arith}
 use lib.ListN.{length, getD, set, take, drop, length-set, length-append, List·getD-append}
 use lib.Seq.{set-append-left, getD-append-add, take-append-seam, drop-append-seam}
 use Rattle.memory.specs.Memory.{Windows, windows, Memory, Lossless, firstLength, secondLength}
+use Rattle.memory.specs.declared.address.Address.{Address}
 use Rattle.memory.specs.Word.{halfAt, wordAt, putByte, putHalf, putWord, putWords}
 use Rattle.memory.proofs.Words.{putWords-length}
 
@@ -27,10 +28,10 @@ set-append-add (x ∷ xs) ys n v = rw suc-add (ap (λ (r : List ℕ). x ∷ r) (
 
 module _ (s t : List ℕ) where
   -- ---- the lengths, as the code has them
-  pub first-length : (base second : ℕ) → firstLength (windows base (length s) second) (length (s ++ t)) ≡ length s
+  pub first-length : (base second : Address) → firstLength (windows base (length s) second) (length (s ++ t)) ≡ length s
   first-length base second = let e = length-append s t in omega arith
 
-  pub second-length : (base second : ℕ) → secondLength (windows base (length s) second) (length (s ++ t)) ≡ length t
+  pub second-length : (base second : Address) → secondLength (windows base (length s) second) (length (s ++ t)) ≡ length t
   second-length base second = let e = length-append s t in omega arith
 
   -- ---- reading

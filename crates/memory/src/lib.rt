@@ -1,4 +1,6 @@
-// Words in lent memory, little-endian.
+// Addresses, and words in lent memory, little-endian.
+
+pub mod address;
 
 ghost use mathlib.Core.Path.{_≡_};
 ghost use Prim.Native.Nat.{_+_, _*_, _≤_, _<_};

@@ -10,10 +10,11 @@ use borrow.Author.Tests.{le-leb, lt-leb}
 use Rattle.words.specs.Exactly.{Exactly}
 use Rattle.words.proofs.Answers.{exactly}
 use Rattle.words.proofs.Truth.{never}
+use Rattle.memory.specs.Address.{asAddress}
 use Rattle.memory.specs.Word.{wordAt}
+use Rattle.memory.specs.declared.address.Address.{Address}
 use Rattle.fields.specs.Psw.{PSW·PRS}
 use Rattle.fields.specs.Syscon.{SYSCON·PROTEN}
-use Rattle.registers.specs.Registers.{plusOf}
 use Rattle.events.specs.declared.trap.Trap.{Trap}
 use Rattle.protection.specs.Range.{lowestOf}
 use Rattle.protection.specs.Access.{checkOf, asks, peripheral}
@@ -33,6 +34,7 @@ use Rattle.image.specs.Fetch.{instructionAt, fetchOf}
 use Rattle.image.specs.declared.fetch.Instruction.{Instruction}
 use Rattle.image.specs.declared.fetch.Fetched.{Fetched}
 use Rattle.image.specs.declared.fetch.Fetched.the-variants.{Found, Nothing}
+use Rattle.accesses.specs.Reach.{dataAddress}
 use Rattle.decisions.specs.Beginning.{Beginning, Interrupts, checkBegins, fetchingAt, beginningOf}
 use Rattle.permits.specs.Permits.{Access, none, access, dataBy, dataIn, fetchAsked, dataAsked, permitOf, permitsBy, noPermits, begunPermits, permitsOf, Named}
 use Rattle.permits.specs.declared.Permits.{Permits}
@@ -43,8 +45,8 @@ module _ (core : List ℕ) (rs : List Range) where
   of-none = refl
 
   -- ---- one access
-  module _ (right : Right) (address : ℕ) where
-    pub of-peripherals : 0xE000_0000 ≤ address → Unnamed ≡ permitOf core rs (access right address)
+  module _ (right : Right) (address : Address) where
+    pub of-peripherals : 0xE000_0000 ≤ address .0 → Unnamed ≡ permitOf core rs (access right address)
     unfolding permitOf
     of-peripherals h = rw (le-leb _ _ h)
 
@@ -56,7 +58,7 @@ module _ (core : List ℕ) (rs : List Range) where
         by true = refl
         by false = refl
 
-    pub asked : address < 0xE000_0000 → SYSCON·PROTEN (getD core 9 0) ≡ true → lowestOf rs (PSW·PRS (getD core 1 0)) right address ≡ permitOf core rs (access right address)
+    pub asked : address .0 < 0xE000_0000 → SYSCON·PROTEN (getD core 9 0) ≡ true → lowestOf rs (PSW·PRS (getD core 1 0)) right address ≡ permitOf core rs (access right address)
     unfolding permitOf
     asked h p = rw (lt-leb _ _ h, p)
 
@@ -83,18 +85,18 @@ module _ (core : List ℕ) (rs : List Range) where
   off (access right address) p = not-asked right address p
 
   -- ---- the data access of the record at a byte of the image
-  module _ (a img : List ℕ) (at pc address : ℕ) (is : address ≡ plusOf (getD a (getD img (at + 2) 0) 0) (wordAt img (at + 4))) where
+  module _ (a img : List ℕ) (at pc : ℕ) (address : Address) (is : address ≡ dataAddress (getD a (getD img (at + 2) 0) 0) (wordAt img (at + 4))) where
     pub of-data : (x : DataAccess) → x ≡ accessOf (operationOf (operationNumber (getD img at 0))) → {p : Permit} → p ≡ permitOf core rs (dataBy x address) → p ≡ permitOf core rs (dataIn (instructionAt img at pc) a)
     unfolding instructionAt
     of-data x e h = rw (← e, ← is) h
 
   module _ (img a : List ℕ) where
     -- ---- of the instruction at PC
-    pub not-fetched : (t : Trap) → Fails t ≡ checkOf core rs right.Execute (getD core 0 0) → Unnamed ≡ permitOf core rs (dataAsked a (fetchingAt img core rs (getD core 0 0)))
+    pub not-fetched : (t : Trap) → Fails t ≡ checkOf core rs right.Execute (asAddress (getD core 0 0)) → Unnamed ≡ permitOf core rs (dataAsked a (fetchingAt img core rs (getD core 0 0)))
     unfolding permitOf fetchingAt
     not-fetched t e = rw (← e)
 
-    module _ (e : Passes ≡ checkOf core rs right.Execute (getD core 0 0)) where
+    module _ (e : Passes ≡ checkOf core rs right.Execute (asAddress (getD core 0 0))) where
       pub no-record : Nothing ≡ fetchOf img (getD core 0 0) → Unnamed ≡ permitOf core rs (dataAsked a (fetchingAt img core rs (getD core 0 0)))
       unfolding permitOf fetchingAt
       no-record f = rw (← e, ← f)
@@ -126,15 +128,15 @@ module _ (core : List ℕ) (rs : List Range) where
       unfolding beginningOf
       both-taken e = both noPermits (Interrupts (bestOf xs)) (rw e refl) (says-both (Interrupts (bestOf xs)) Unnamed Unnamed of-none of-none)
 
-      asks-fetch : (c : Check) (f : Fetched) → fetchAsked (getD core 0 0) (checkBegins c f) ≡ access right.Execute (getD core 0 0)
+      asks-fetch : (c : Check) (f : Fetched) → fetchAsked (getD core 0 0) (checkBegins c f) ≡ access right.Execute (asAddress (getD core 0 0))
       asks-fetch (Fails t) f = refl
       asks-fetch Passes Nothing = refl
       asks-fetch Passes (Found i) = refl
 
-      fetch-asked : fetchAsked (getD core 0 0) (fetchingAt img core rs (getD core 0 0)) ≡ access right.Execute (getD core 0 0)
+      fetch-asked : fetchAsked (getD core 0 0) (fetchingAt img core rs (getD core 0 0)) ≡ access right.Execute (asAddress (getD core 0 0))
       unfolding fetchingAt
-      fetch-asked = asks-fetch (checkOf core rs right.Execute (getD core 0 0)) (fetchOf img (getD core 0 0))
+      fetch-asked = asks-fetch (checkOf core rs right.Execute (asAddress (getD core 0 0))) (fetchOf img (getD core 0 0))
 
-      pub both-quiet : takes (getD core 5 0) (bestOf xs .level) ≡ false → {f d : Permit} → f ≡ permitOf core rs (access right.Execute (getD core 0 0)) → d ≡ permitOf core rs (dataAsked a (fetchingAt img core rs (getD core 0 0))) → Both (permitsBy f d)
+      pub both-quiet : takes (getD core 5 0) (bestOf xs .level) ≡ false → {f d : Permit} → f ≡ permitOf core rs (access right.Execute (asAddress (getD core 0 0))) → d ≡ permitOf core rs (dataAsked a (fetchingAt img core rs (getD core 0 0))) → Both (permitsBy f d)
       unfolding beginningOf
       both-quiet e {f} {d} p q = let s = fetchingAt img core rs (getD core 0 0) in both (permitsBy f d) s (rw e refl) (says-both s f d (p ∙ ap (permitOf core rs) (sym fetch-asked)) q)

@@ -6,6 +6,8 @@ use mathlib.Core.List.{List}
 use mathlib.Core.Logic.{_⊎_}
 use lib.ListN.{getD}
 use Rattle.fields.specs.Psw.{PSW·PRS}
+use Rattle.memory.specs.Address.{asAddress}
+use Rattle.memory.specs.declared.address.Address.{Address}
 use Rattle.registers.specs.Core.{PC, PSW}
 use Rattle.protection.specs.Range.{lowestOf, Lowest}
 use Rattle.protection.specs.Access.{asks}
@@ -25,10 +27,10 @@ use Rattle.permits.specs.declared.Permits.{Permits}
 -- an access that a step makes: a right and an address
 pub data Access : Type 0 where
   none : Access
-  access : Right → ℕ → Access
+  access : Right → Address → Access
 
 -- a load's or a store's, at A[a] plus immediate
-abbrev pub dataBy : DataAccess → ℕ → Access
+abbrev pub dataBy : DataAccess → Address → Access
 dataBy data-access.Nothing address = none
 dataBy data-access.Read address = access Read address
 dataBy data-access.Write address = access Write address
@@ -39,8 +41,8 @@ dataIn i a = dataBy (accessOf (i .op)) (addressIn i a)
 -- by a step's beginning, with the PC and the address registers before it: the fetch's access, none where an interrupt is taken; and the instruction's
 abbrev pub fetchAsked : ℕ → Beginning → Access
 fetchAsked pc (Interrupts b) = none
-fetchAsked pc (Traps t) = access Execute pc
-fetchAsked pc (Executes i) = access Execute pc
+fetchAsked pc (Traps t) = access Execute (asAddress pc)
+fetchAsked pc (Executes i) = access Execute (asAddress pc)
 
 abbrev pub dataAsked : List ℕ → Beginning → Access
 dataAsked a (Interrupts b) = none

@@ -1,11 +1,14 @@
 // The ranges that permit a step's fetch and its data access: of set PRS the lowest.
 
+use accesses::reach::data_address;
 use image::fetch::Rest;
 use image::fetch::rest_at;
 use image::fetch::rest_long;
 use image::fetch::wide;
 use interrupts::best_source;
 use interrupts::taken;
+use memory::address::Address;
+use memory::address::as_address;
 use memory::word_at;
 use operations::Access;
 use operations::access_of;
@@ -19,7 +22,6 @@ use registers::ICR;
 use registers::PC;
 use registers::PSW;
 use registers::SYSCON;
-use registers::plus;
 ghost use mathlib.Core.Path.{_≡_};
 ghost use mathlib.Core.Bool.{true};
 ghost use Prim.Native.Nat.{_+_, _≤_};
@@ -41,10 +43,10 @@ pub struct Permits {
 }
 
 // The lowest range that permits the access, where the ranges are asked and one does.
-fn permit_for(core: &[u32; 10], words: &[u32; 96], right: Right, address: u32) -> Permit
+fn permit_for(core: &[u32; 10], words: &[u32; 96], right: Right, address: Address) -> Permit
     ensures { λ r. ⌜ r ≡ permitOf (now (core .entry)) (rangesIn (now (words .entry))) (access right address) ⌝ }
 {
-    if 0xE000_0000 <= address {
+    if 0xE000_0000 <= address.0 {
         return Permit::Unnamed;
     }
     if !fields::syscon::protection(core[SYSCON]) {
@@ -71,7 +73,7 @@ fn permit_record(
     ensures { λ r. ⌜ r ≡ permitOf (now (core .entry)) (rangesIn (now (words .entry))) (dataIn (instructionAt (now (image .entry)) at pc) (now (a .entry))) ⌝ }
 {
     let x = wide(image[at + 2]);
-    let address = plus(a[x], word_at(image, at + 4));
+    let address = data_address(a[x], word_at(image, at + 4));
     match access_of(operation_number(image[at])) {
         Access::Nothing => Permit::Unnamed,
         Access::Read => permit_for(core, words, Right::Read, address),
@@ -103,7 +105,7 @@ fn permit_data(
     ensures { λ r. ⌜ r ≡ permitOf (now (core .entry)) (rangesIn (now (words .entry))) (dataAsked (now (a .entry)) (fetchingAt (now (image .entry)) (now (core .entry)) (rangesIn (now (words .entry))) (getD (now (core .entry)) PC 0))) ⌝ }
 {
     let pc = core[PC];
-    match check_access(core, words, Right::Execute, pc) {
+    match check_access(core, words, Right::Execute, as_address(pc)) {
         Check::Fails(_) => Permit::Unnamed,
         Check::Passes => {
             let rest = rest_of(image, long, pc);
@@ -143,7 +145,7 @@ pub fn permits_of(
         };
     }
     Permits {
-        fetch: permit_for(core, words, Right::Execute, core[PC]),
+        fetch: permit_for(core, words, Right::Execute, as_address(core[PC])),
         data: permit_data(image, long, a, core, words),
     }
 }

@@ -8,6 +8,7 @@ use lib.ListN.{getD}
 use borrow.Author.Tests.{le-leb, lt-leb}
 use Rattle.fields.specs.Psw.{PSW·PRS, isUser0}
 use Rattle.fields.specs.Syscon.{SYSCON·PROTEN}
+use Rattle.memory.specs.declared.address.Address.{Address}
 use Rattle.events.specs.Traps.{MPP}
 use Rattle.protection.specs.Range.{permitted, PermittedBy}
 use Rattle.protection.specs.Access.{deniedOf, checkOf}
@@ -16,29 +17,29 @@ use Rattle.protection.specs.declared.range.Right.{Right}
 use Rattle.protection.specs.declared.access.Check.the-variants.{Passes, Fails}
 use Rattle.protection.proofs.Searches.{permitted-by}
 
-module _ (core : List ℕ) (rs : List Range) (right : Right) (address : ℕ) where
-  pub for-peripherals : 0xE000_0000 ≤ address → isUser0 (getD core 1 0) ≡ true → Fails MPP ≡ checkOf core rs right address
+module _ (core : List ℕ) (rs : List Range) (right : Right) (address : Address) where
+  pub for-peripherals : 0xE000_0000 ≤ address .0 → isUser0 (getD core 1 0) ≡ true → Fails MPP ≡ checkOf core rs right address
   unfolding checkOf
   for-peripherals h u = rw (le-leb _ _ h, u)
 
-  pub to-peripherals : 0xE000_0000 ≤ address → isUser0 (getD core 1 0) ≡ false → Passes ≡ checkOf core rs right address
+  pub to-peripherals : 0xE000_0000 ≤ address .0 → isUser0 (getD core 1 0) ≡ false → Passes ≡ checkOf core rs right address
   unfolding checkOf
   to-peripherals h u = rw (le-leb _ _ h, u)
 
-  pub unasked : address < 0xE000_0000 → SYSCON·PROTEN (getD core 9 0) ≡ false → Passes ≡ checkOf core rs right address
+  pub unasked : address .0 < 0xE000_0000 → SYSCON·PROTEN (getD core 9 0) ≡ false → Passes ≡ checkOf core rs right address
   unfolding checkOf
   unasked h p = rw (lt-leb _ _ h, p)
 
-  pub denied : address < 0xE000_0000 → SYSCON·PROTEN (getD core 9 0) ≡ true → permitted rs (PSW·PRS (getD core 1 0)) right address ≡ false → Fails (deniedOf right) ≡ checkOf core rs right address
+  pub denied : address .0 < 0xE000_0000 → SYSCON·PROTEN (getD core 9 0) ≡ true → permitted rs (PSW·PRS (getD core 1 0)) right address ≡ false → Fails (deniedOf right) ≡ checkOf core rs right address
   unfolding checkOf
   denied h p d = rw (lt-leb _ _ h, p, d)
 
-  pub allowed : (k : ℕ) → address < 0xE000_0000 → SYSCON·PROTEN (getD core 9 0) ≡ true → PermittedBy rs (PSW·PRS (getD core 1 0)) right address k → Passes ≡ checkOf core rs right address
+  pub allowed : (k : ℕ) → address .0 < 0xE000_0000 → SYSCON·PROTEN (getD core 9 0) ≡ true → PermittedBy rs (PSW·PRS (getD core 1 0)) right address k → Passes ≡ checkOf core rs right address
   unfolding checkOf
   allowed k h p b = rw (lt-leb _ _ h, p, permitted-by rs right address _ k b)
 
   -- below the peripherals a check goes by PROTEN and PRS alone
-  pub same-check : (other : List ℕ) → address < 0xE000_0000 → SYSCON·PROTEN (getD other 9 0) ≡ SYSCON·PROTEN (getD core 9 0) → PSW·PRS (getD other 1 0) ≡ PSW·PRS (getD core 1 0)
+  pub same-check : (other : List ℕ) → address .0 < 0xE000_0000 → SYSCON·PROTEN (getD other 9 0) ≡ SYSCON·PROTEN (getD core 9 0) → PSW·PRS (getD other 1 0) ≡ PSW·PRS (getD core 1 0)
       → checkOf other rs right address ≡ checkOf core rs right address
   unfolding checkOf
   same-check other h p q = rw (lt-leb _ _ h, p, q)

@@ -14,6 +14,7 @@ use Rattle.words.specs.Exactly.{Exactly}
 use Rattle.words.proofs.Answers.{exactly}
 use Rattle.words.proofs.Integers.{lt-or-ge}
 use Rattle.words.proofs.Truth.{never, both-true}
+use Rattle.memory.specs.declared.address.Address.{Address}
 use Rattle.protection.specs.Range.{rangeAt, rangesIn, noRange, enables, permits, permitsAt, anyFrom, firstOf, permitted, lowestFrom, lowestOf, PermittedBy, LowestBy, Lowest}
 use Rattle.protection.specs.declared.range.Range.{Range}
 use Rattle.protection.specs.declared.range.Right.{Right}
@@ -22,7 +23,7 @@ use Rattle.protection.specs.declared.range.Permit.{Permit}
 use Rattle.protection.specs.declared.range.Permit.the-variants.{Unnamed, By}
 use Rattle.protection.proofs.Ranges.{ranges-at}
 
-module _ (rs : List Range) (right : Right) (address : ℕ) where
+module _ (rs : List Range) (right : Right) (address : Address) where
   pub none : (n k : ℕ) → ((j : ℕ) → j < n → permitsAt rs (k + j) right address ≡ false) → anyFrom n k rs right address ≡ false
   unfolding anyFrom
   none zero k h = refl
@@ -109,11 +110,11 @@ module _ (rs : List Range) (right : Right) (address : ℕ) where
     lowest-is r h = exactly (Lowest rs set right address) (lowestOf rs set right address) lowest-says (λ x k. only (lowestOf rs set right address) x lowest-says k) r (only (lowestOf rs set right address) r lowest-says h)
 
 -- a range that was read and tried
-pub seen : (ws : List ℕ) (k : ℕ) (right : Right) (address : ℕ) (g : Range) (t u : Bool) → k < 32 → g ≡ rangeAt ws k → t ≡ permits g right address → t ≡ u → permitsAt (rangesIn ws) k right address ≡ u
+pub seen : (ws : List ℕ) (k : ℕ) (right : Right) (address : Address) (g : Range) (t u : Bool) → k < 32 → g ≡ rangeAt ws k → t ≡ permits g right address → t ≡ u → permitsAt (rangesIn ws) k right address ≡ u
 seen ws k right address g t u h is e v = rw (ranges-at ws k h, ← is, ← e) v
 
 -- range i of the set that permits, where none before it does
-pub found : (rs : List Range) (set : ℕ) (right : Right) (address from i k : ℕ) → from ≡ firstOf set right → i < 4 → k ≡ from + i → permitsAt rs (from + i) right address ≡ true → ((j : ℕ) → j < i → permitsAt rs (from + j) right address ≡ false) → LowestBy rs set right address k
+pub found : (rs : List Range) (set : ℕ) (right : Right) (address : Address) (from i k : ℕ) → from ≡ firstOf set right → i < 4 → k ≡ from + i → permitsAt rs (from + i) right address ≡ true → ((j : ℕ) → j < i → permitsAt rs (from + j) right address ≡ false) → LowestBy rs set right address k
 found rs set right address from i k f h e p n =
     record {
       one = record { from = omega arith; to = omega arith; permits-it = subst (λ (x : ℕ). permitsAt rs x right address ≡ true) (sym e) p };
@@ -127,28 +128,28 @@ first-below set Read h = omega arith
 first-below set Write h = omega arith
 first-below set Execute h = omega arith
 
-pub one-of-all : (rs : List Range) (set : ℕ) (right : Right) (address k : ℕ) → set < 4 → PermittedBy rs set right address k → k < 32
+pub one-of-all : (rs : List Range) (set : ℕ) (right : Right) (address : Address) (k : ℕ) → set < 4 → PermittedBy rs set right address k → k < 32
 one-of-all rs set right address k h p = omega (arith, p .to, first-below set right h)
 
 -- ---- what a permitting range says of its bounds
-module _ (rs : List Range) (set : ℕ) (right : Right) (address k : ℕ) (p : PermittedBy rs set right address k) where
+module _ (rs : List Range) (set : ℕ) (right : Right) (address : Address) (k : ℕ) (p : PermittedBy rs set right address k) where
   g : Range
   g = getD rs k noRange
 
-  parts : (leb (g .lower) address && ltb address (g .upper) ≡ true) × (enables (g .mode) right ≡ true)
+  parts : (leb (g .lower) (address .0) && ltb (address .0) (g .upper) ≡ true) × (enables (g .mode) right ≡ true)
   unfolding permits g
-  parts = both-true (leb (g .lower) address && ltb address (g .upper)) (enables (g .mode) right) (p .permits-it)
+  parts = both-true (leb (g .lower) (address .0) && ltb (address .0) (g .upper)) (enables (g .mode) right) (p .permits-it)
 
-  bounds : (leb (g .lower) address ≡ true) × (ltb address (g .upper) ≡ true)
-  bounds = both-true (leb (g .lower) address) (ltb address (g .upper)) (parts .0)
+  bounds : (leb (g .lower) (address .0) ≡ true) × (ltb (address .0) (g .upper) ≡ true)
+  bounds = both-true (leb (g .lower) (address .0)) (ltb (address .0) (g .upper)) (parts .0)
 
-  pub below-upper : address < getD rs k noRange .upper
+  pub below-upper : address .0 < getD rs k noRange .upper
   unfolding g
-  below-upper = ltb-true address (g .upper) (bounds .1)
+  below-upper = ltb-true (address .0) (g .upper) (bounds .1)
 
   -- it permits the addresses from there to its upper bound
-  pub onward : (later : ℕ) → address ≤ later → later < getD rs k noRange .upper → PermittedBy rs set right later k
+  pub onward : (later : Address) → address .0 ≤ later .0 → later .0 < getD rs k noRange .upper → PermittedBy rs set right later k
   unfolding permits g
   onward later h l =
-      let low : g .lower ≤ later = omega (arith, leb-true (g .lower) address (bounds .0)) in
+      let low : g .lower ≤ later .0 = omega (arith, leb-true (g .lower) (address .0) (bounds .0)) in
       record { from = p .from; to = p .to; permits-it = rw (le-leb _ _ low, lt-ltb _ _ l) (parts .1) }

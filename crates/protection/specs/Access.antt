@@ -7,6 +7,7 @@ use lib.Dec.{leb}
 use Rattle.fields.specs.Psw.{PSW·PRS, isUser0}
 use Rattle.fields.specs.Syscon.{SYSCON·PROTEN}
 use Rattle.registers.specs.Core.{PSW, SYSCON}
+use Rattle.memory.specs.declared.address.Address.{Address}
 use Rattle.events.specs.Traps.{MPR, MPW, MPX, MPP}
 use Rattle.events.specs.declared.trap.Trap.{Trap}
 use Rattle.protection.specs.Range.{permitted}
@@ -23,11 +24,11 @@ deniedOf Write = MPW
 deniedOf Execute = MPX
 
 -- the two upper segments, E and F, are those of the peripherals
-abbrev pub peripheral : ℕ → Bool
-peripheral address = leb 0xE000_0000 address
+abbrev pub peripheral : Address → Bool
+peripheral address = leb 0xE000_0000 (address .0)
 
 -- segments E and F skip the ranges, and are not for User-0. The ranges are those of set PRS, only when protection is on, and only the first byte counts
-unfoldable pub checkOf : List ℕ → List Range → Right → ℕ → Check
+unfoldable pub checkOf : List ℕ → List Range → Right → Address → Check
 checkOf core rs right address =
     let psw = getD core PSW 0 in
     let syscon = getD core SYSCON 0 in
@@ -35,5 +36,5 @@ checkOf core rs right address =
     (cond (not (SYSCON·PROTEN syscon) || permitted rs (PSW·PRS psw) right address) Passes (Fails (deniedOf right)))
 
 -- the ranges are asked
-abbrev pub asks : List ℕ → ℕ → Bool
+abbrev pub asks : List ℕ → Address → Bool
 asks core address = not (peripheral address) && SYSCON·PROTEN (getD core SYSCON 0)

@@ -6,6 +6,7 @@ use mathlib.Core.List.{List, [], _∷_}
 use lib.ListN.{getD}
 use lib.Dec.{ltb, leb}
 use Rattle.fields.specs.Field.{isSet}
+use Rattle.memory.specs.declared.address.Address.{Address}
 use Rattle.protection.specs.declared.range.Range.{Range}
 use Rattle.protection.specs.declared.range.Right.{Right}
 use Rattle.protection.specs.declared.range.Right.the-variants.{Read, Write, Execute}
@@ -35,8 +36,8 @@ enables mode Write = isSet 7 mode
 enables mode Execute = isSet 7 mode
 
 -- lower bound ≤ address < upper bound, with the right
-unfoldable pub permits : Range → Right → ℕ → Bool
-permits g right address = leb (g .lower) address && ltb address (g .upper) && enables (g .mode) right
+unfoldable pub permits : Range → Right → Address → Bool
+permits g right address = leb (g .lower) (address .0) && ltb (address .0) (g .upper) && enables (g .mode) right
 
 -- the number of a set's first range: its four data ranges, then its four code ranges
 unfoldable pub firstOf : ℕ → Right → ℕ
@@ -45,39 +46,39 @@ firstOf set Write = 8 * set
 firstOf set Execute = 8 * set + 4
 
 -- range k permits the access
-abbrev pub permitsAt : List Range → ℕ → Right → ℕ → Bool
+abbrev pub permitsAt : List Range → ℕ → Right → Address → Bool
 permitsAt rs k right address = permits (getD rs k noRange) right address
 
 -- one of n ranges from range k on permits it
-unfoldable pub anyFrom : ℕ → ℕ → List Range → Right → ℕ → Bool
+unfoldable pub anyFrom : ℕ → ℕ → List Range → Right → Address → Bool
 anyFrom zero k rs right address = false
 anyFrom (suc n) k rs right address = permitsAt rs k right address || anyFrom n (k + 1) rs right address
 
 -- one of the set's four ranges permits it
-abbrev pub permitted : List Range → ℕ → Right → ℕ → Bool
+abbrev pub permitted : List Range → ℕ → Right → Address → Bool
 permitted rs set right address = anyFrom 4 (firstOf set right) rs right address
 
 -- the first of n ranges from range k on that permits it, by its number
-unfoldable pub lowestFrom : ℕ → ℕ → List Range → Right → ℕ → Permit
+unfoldable pub lowestFrom : ℕ → ℕ → List Range → Right → Address → Permit
 lowestFrom zero k rs right address = Unnamed
 lowestFrom (suc n) k rs right address = cond (permitsAt rs k right address) (By k) (lowestFrom n (k + 1) rs right address)
 
 -- of the set's four ranges the lowest that permits it (02, point 2)
-abbrev pub lowestOf : List Range → ℕ → Right → ℕ → Permit
+abbrev pub lowestOf : List Range → ℕ → Right → Address → Permit
 lowestOf rs set right address = lowestFrom 4 (firstOf set right) rs right address
 
 -- range k is of the set, and permits the access
-pub record PermittedBy (rs : List Range) (set : ℕ) (right : Right) (address k : ℕ) : Type 0 where
+pub record PermittedBy (rs : List Range) (set : ℕ) (right : Right) (address : Address) (k : ℕ) : Type 0 where
   pub from : firstOf set right ≤ k
   pub to : k < firstOf set right + 4
   pub permits-it : permitsAt rs k right address ≡ true
 
 -- the lowest permitting range: one of the set that permits the access, and none before it does
-pub record LowestBy (rs : List Range) (set : ℕ) (right : Right) (address k : ℕ) : Type 0 where
+pub record LowestBy (rs : List Range) (set : ℕ) (right : Right) (address : Address) (k : ℕ) : Type 0 where
   pub one : PermittedBy rs set right address k
   pub none-before : (j : ℕ) → firstOf set right ≤ j → j < k → permitsAt rs j right address ≡ false
 
 -- what is named: the lowest permitting range, and no range where none of the four permits
-abbrev pub Lowest : List Range → ℕ → Right → ℕ → Permit → Type 0
+abbrev pub Lowest : List Range → ℕ → Right → Address → Permit → Type 0
 Lowest rs set right address (By k) = LowestBy rs set right address k
 Lowest rs set right address Unnamed = permitted rs set right address ≡ false

@@ -8,6 +8,7 @@ use events::trap::MPR;
 use events::trap::MPW;
 use events::trap::MPX;
 use events::trap::Trap;
+use memory::address::Address;
 use registers::PSW;
 use registers::SYSCON;
 ghost use mathlib.Core.Path.{_≡_};
@@ -31,10 +32,10 @@ fn denied(right: Right) -> Trap
 }
 
 // Checks the access to an address.
-pub fn check_access(core: &[u32; 10], words: &[u32; 96], right: Right, address: u32) -> Check
+pub fn check_access(core: &[u32; 10], words: &[u32; 96], right: Right, address: Address) -> Check
     ensures { λ r. ⌜ r ≡ checkOf (now (core .entry)) (rangesIn (now (words .entry))) right address ⌝ }
 {
-    if 0xE000_0000 <= address {
+    if 0xE000_0000 <= address.0 {
         if fields::psw::user0(core[PSW]) {
             return Check::Fails(MPP);
         }

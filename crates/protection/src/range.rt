@@ -1,5 +1,6 @@
 // The ranges: four sets, each of four data ranges and then four code ranges.
 
+use memory::address::Address;
 ghost use mathlib.Core.Path.{_≡_};
 ghost use Prim.Native.Nat.{_<_};
 ghost use Rattle.words.specs.Exactly.{Exactly};
@@ -63,16 +64,16 @@ fn enabled(mode: u32, right: Right) -> bool
 }
 
 // Whether a range permits the access to an address. The mode is tried first: a range that is not in use has no right.
-fn permitting(g: Range, right: Right, address: u32) -> bool
+fn permitting(g: Range, right: Right, address: Address) -> bool
     ensures { λ r. ⌜ r ≡ permits g right address ⌝ }
 {
     if !enabled(g.mode, right) {
         return false;
     }
-    if address < g.lower {
+    if address.0 < g.lower {
         return false;
     }
-    address < g.upper
+    address.0 < g.upper
 }
 
 // The number of a set's first range for the right.
@@ -88,7 +89,7 @@ fn first(set: usize, right: Right) -> usize
 }
 
 // The lowest range of the set that permits the access to an address.
-pub fn search(words: &[u32; 96], set: usize, right: Right, address: u32) -> Permit
+pub fn search(words: &[u32; 96], set: usize, right: Right, address: Address) -> Permit
     requires { ⌜ set < 4 ⌝ }
     ensures { λ r. ⌜ (r ≡ lowestOf (rangesIn (now (words .entry))) set right address) × Exactly (Lowest (rangesIn (now (words .entry))) set right address) r ⌝ }
 {

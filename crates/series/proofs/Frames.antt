@@ -7,24 +7,17 @@ use mathlib.Core.List.{List, [], _∷_, _++_}
 use lib.ListN.{length}
 use Rattle.memory.specs.Memory.{Memory}
 use Rattle.memory.specs.Word.{wordAt}
-use Rattle.areas.specs.Link.{linkOf}
+use Rattle.fields.specs.Link.{linkOf}
+use Rattle.fields.proofs.Links.{link-below}
 use Rattle.areas.specs.Place.{placeOf}
 use Rattle.areas.specs.Area.{areaAt}
-use Rattle.areas.specs.declared.link.Link.{Link}
+use Rattle.fields.specs.declared.link.Link.{Link}
 use Rattle.areas.specs.declared.link.Place.the-variants.{At}
 use Rattle.lists.specs.Lists.{Leads, count}
 use Rattle.lists.proofs.Counts.{one-self}
 use Rattle.series.specs.Abstract.{SavedContext, held, links}
 use Rattle.series.specs.Claim.{end, Stacked}
 use Rattle.series.proofs.Areas.{first-same}
-
--- a link of a word is a link
-pub link-below : {k : Link} (w : ℕ) → linkOf w ≡ k → k .0 < 2 ^ 20
-link-below {k} w e = subst (λ (l : Link). l .0 < 2 ^ 20) e (omega arith)
-
--- and the link of a link is itself
-pub link-twice : (w : ℕ) → linkOf (linkOf w .0) ≡ linkOf w
-link-twice w = let e : w % 2 ^ 20 % 2 ^ 20 ≡ w % 2 ^ 20 = omega arith in ap (λ (x : ℕ). record { 0 = x }) e
 
 pub count-self : (k : Link) (ks : List Link) → 1 ≤ count k (k ∷ ks)
 count-self k ks = omega (arith, one-self k)

@@ -10,13 +10,15 @@ use Rattle.memory.specs.Memory.{Memory, memory}
 use Rattle.memory.specs.Word.{wordAt, putWord, putWords}
 use Rattle.memory.proofs.Words.{putWord-length, putWords-length}
 use Rattle.fields.specs.Pcxi.{PCXI·UL, pcxiOf}
+use Rattle.fields.proofs.Links.{link-below, link-twice}
 use Rattle.bounds.proofs.Fields.{pcxi-link, pcxi-ul}
 use Rattle.registers.specs.Registers.{pcxi, fcx, icr}
 use Rattle.registers.specs.declared.Registers.{Registers}
-use Rattle.areas.specs.Link.{linkOf, addressOf}
+use Rattle.fields.specs.Link.{linkOf}
+use Rattle.areas.specs.Link.{areaAddress}
 use Rattle.areas.specs.Place.{placeOf}
 use Rattle.areas.specs.Area.{areaAt}
-use Rattle.areas.specs.declared.link.Link.{Link}
+use Rattle.fields.specs.declared.link.Link.{Link}
 use Rattle.areas.specs.declared.link.Place.the-variants.{At}
 use Rattle.areas.proofs.Places.{apart, placed-at}
 use Rattle.areas.proofs.Parts.{area-first}
@@ -32,7 +34,7 @@ use Rattle.series.specs.Abstract.{named, held, SavedContext, context, Ab
 use Rattle.series.specs.Calls.{State, state}
 use Rattle.series.specs.Claim.{end, Stacked, Agree}
 use Rattle.series.proofs.Areas.{written-first, written-apart, held-written, linked-word, linked-apart}
-use Rattle.series.proofs.Frames.{link-below, link-twice, Unchanged, leads-frame, stacked-frame, place-same}
+use Rattle.series.proofs.Frames.{Unchanged, leads-frame, stacked-frame, place-same}
 
 -- L are the areas listed at the start
 pub record Inv (L : List Link) (s : State) (b : AbstractLists) : Type 0 where
@@ -51,7 +53,7 @@ same-place m l a b p q = at-inj (sym p ∙ q)
 
 -- other links' areas lie apart
 others : (m : Memory) (l : Link) (at : ℕ) → l .0 < 2 ^ 20 → placeOf m l ≡ At at → (k : Link) → k .0 < 2 ^ 20 → (l .0 ≡ k .0 → ⊥) → (p : ℕ) → placeOf m k ≡ At p → ((at + 64 ≤ p) ⊎ (p + 64 ≤ at)) × (p + 64 ≤ length (m .bytes))
-others m l at h e k g n p f = (apart (m .windows) (length (m .bytes)) l k at p h g n e f, placed-at (m .windows) (length (m .bytes)) (addressOf k) p f .inside)
+others m l at h e k g n p f = (apart (m .windows) (length (m .bytes)) l k at p h g n e f, placed-at (m .windows) (length (m .bytes)) (areaAddress k) p f .inside)
 
 -- a link that stands on a list where l does not is another one
 not-on : (l k : Link) (ks : List Link) → count l ks ≡ 0 → 1 ≤ count k ks → l .0 ≡ k .0 → ⊥
@@ -74,7 +76,7 @@ module _ {L : List Link} {r : Registers} {m : Memory} where
     place-l = ap (placeOf m) (sym is-l) ∙ p
 
     inside : at + 64 ≤ length (m .bytes)
-    inside = placed-at (m .windows) (length (m .bytes)) (addressOf (linkOf (fcx r))) at p .inside
+    inside = placed-at (m .windows) (length (m .bytes)) (areaAddress (linkOf (fcx r))) at p .inside
 
     -- l stands on neither list otherwise
     fresh : (count l ls ≡ 0) × (count l (links cs) ≡ 0)
@@ -96,7 +98,7 @@ module _ {L : List Link} {r : Registers} {m : Memory} where
         first Upper = refl
         first Lower = refl
 
-    pub save-inv : (q : Registers) → Valid q → fcx q ≡ linkOf (wordAt (m .bytes) at) .0 → pcxi q ≡ pcxiOf (icr r) (ulOf half) (fcx r)
+    pub save-inv : (q : Registers) → Valid q → fcx q ≡ linkOf (wordAt (m .bytes) at) .0 → pcxi q ≡ pcxiOf (icr r) (ulOf half) (linkOf (fcx r))
         → Inv L (state q n) (lists ls (context l half (named half r) ∷ cs))
     save-inv q v ef ep =
         let t = i .agree .free in
@@ -110,7 +112,7 @@ module _ {L : List Link} {r : Registers} {m : Memory} where
               record {
                 free = rw again (leads-frame m n refl (putWords-length (m .bytes) at ws 16) ls (wordAt (m .bytes) at) (unchanged ls (fresh .0)) onward);
                 saved = (
-                  ap (λ (w : ℕ). linkOf w) ep ∙ ap (λ (x : ℕ). record { 0 = x }) (pcxi-link (icr r) (ulOf half) (fcx r)) ∙ is-l,
+                  ap (λ (w : ℕ). linkOf w) ep ∙ pcxi-link (icr r) (ulOf half) (fcx r) ∙ is-l,
                   (λ z. t .1 (ap (λ (k : Link). k .0) is-l ∙ z)),
                   ap PCXI·UL ep ∙ pcxi-ul (icr r) (ulOf half) (fcx r),
                   at,
@@ -135,7 +137,7 @@ module _ {L : List Link} {r : Registers} {m : Memory} where
     place-c = ap (placeOf m) (sym is-c) ∙ p
 
     inside′ : at + 64 ≤ length (m .bytes)
-    inside′ = placed-at (m .windows) (length (m .bytes)) (addressOf (linkOf (pcxi r))) at p .inside
+    inside′ = placed-at (m .windows) (length (m .bytes)) (areaAddress (linkOf (pcxi r))) at p .inside
 
     fresh′ : (count (c .link) fs ≡ 0) × (count (c .link) (links cs) ≡ 0)
     fresh′ = (omega (arith, i .same (c .link), i .once (c .link), one-self (c .link)), omega (arith, i .same (c .link), i .once (c .link), one-self (c .link)))

@@ -9,9 +9,9 @@ use Rattle.memory.specs.Memory.{Memory}
 use Rattle.memory.specs.Word.{wordAt}
 use Rattle.fields.specs.Pcxi.{PCXI·UL}
 use Rattle.registers.specs.Registers.{pc, fcx, pcxi}
-use Rattle.areas.specs.Link.{linkOf}
+use Rattle.fields.specs.Link.{linkOf}
 use Rattle.areas.specs.Area.{areaAt}
-use Rattle.areas.specs.declared.link.Link.{Link}
+use Rattle.fields.specs.declared.link.Link.{Link}
 use Rattle.lists.specs.Lists.{Leads, count, Sound}
 use Rattle.contexts.specs.Context.{ulOf}
 use Rattle.contexts.specs.declared.context.Half.{Half}

@@ -16,10 +16,11 @@ use Rattle.registers.specs.Registers.{pcxi, fcx}
 use Rattle.registers.specs.declared.Registers.{Registers}
 use Rattle.events.specs.declared.event.Stop.{Stop}
 use Rattle.events.specs.declared.event.Ending.the-variants.{Stopped}
-use Rattle.areas.specs.Link.{linkOf, addressOf}
+use Rattle.fields.specs.Link.{linkOf}
+use Rattle.areas.specs.Link.{areaAddress}
 use Rattle.areas.specs.Place.{placeOf}
 use Rattle.areas.specs.Area.{areaAt}
-use Rattle.areas.specs.declared.link.Link.{Link}
+use Rattle.fields.specs.declared.link.Link.{Link}
 use Rattle.areas.specs.declared.link.Place.the-variants.{At}
 use Rattle.areas.proofs.Places.{never-at, placed-at}
 use Rattle.operations.specs.declared.Store.{Store}
@@ -88,7 +89,7 @@ module _ {L : List Link} {r : Registers} {m : Memory} {b : AbstractLists} (i : I
 
   unchanged : (ks : List Link) → ((l : Link) → count l ks ≤ count l L) → Unchanged m n refl (stored-length op (m .bytes) at v) ks
   unchanged ks g l x c p e =
-      area-same (m .bytes) (n .bytes) p (placed-at (m .windows) (length (m .bytes)) (addressOf l) p e .inside) (stored-length op (m .bytes) at v)
+      area-same (m .bytes) (n .bytes) p (placed-at (m .windows) (length (m .bytes)) (areaAddress l) p e .inside) (stored-length op (m .bytes) at v)
       (λ k y z. stored-byte op (m .bytes) at v k (clear l (omega (arith, g l)) p e k y z))
 
   write-inv : (quiet : Type 0) (q : Registers) → Sound quiet r q → quiet → Inv L (state q n) b

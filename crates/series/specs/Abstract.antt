@@ -7,8 +7,8 @@ use Rattle.memory.specs.Word.{wordAt, wordsAt}
 use Rattle.fields.specs.Pcxi.{pcxiOf}
 use Rattle.registers.specs.Registers.{D, A, psw, pcxi, lcx, icr}
 use Rattle.registers.specs.declared.Registers.{Registers}
-use Rattle.areas.specs.Link.{linkOf}
-use Rattle.areas.specs.declared.link.Link.{Link}
+use Rattle.fields.specs.Link.{linkOf}
+use Rattle.fields.specs.declared.link.Link.{Link}
 use Rattle.contexts.specs.Context.{ulOf}
 use Rattle.contexts.specs.declared.context.Half.{Half}
 use Rattle.contexts.specs.declared.context.Half.the-variants.{Upper, Lower}
@@ -78,7 +78,7 @@ moveOf (Return half then) r = returns
 -- the FCD entry's save, after the one that took l. Where there is no link for it the step is a stop
 abbrev pub saveTwo : SaveOf → Link → List Link → AbstractLists → AbstractLists
 saveTwo s l [] b = b
-saveTwo s l (k ∷ ks) b = lists ks (context k Upper (pcxiOf (s .icr) (ulOf (s .half)) (l .0) ∷ s .reached) ∷ context l (s .half) (s .registers) ∷ b .saved)
+saveTwo s l (k ∷ ks) b = lists ks (context k Upper (pcxiOf (s .icr) (ulOf (s .half)) l ∷ s .reached) ∷ context l (s .half) (s .registers) ∷ b .saved)
 
 -- the first free link goes on top of the saved contexts
 abbrev pub saveOne : SaveOf → List Link → AbstractLists → AbstractLists

@@ -7,10 +7,10 @@ use Rattle.memory.specs.Word.{wordAt}
 use Rattle.fields.specs.Pcxi.{PCXI·UL}
 use Rattle.registers.specs.Registers.{fcx, pcxi}
 use Rattle.registers.specs.declared.Registers.{Registers}
-use Rattle.areas.specs.Link.{linkOf}
+use Rattle.fields.specs.Link.{linkOf}
 use Rattle.areas.specs.Place.{placeOf}
 use Rattle.areas.specs.Area.{areaAt}
-use Rattle.areas.specs.declared.link.Link.{Link}
+use Rattle.fields.specs.declared.link.Link.{Link}
 use Rattle.areas.specs.declared.link.Place.the-variants.{At}
 use Rattle.lists.specs.Lists.{Leads, count}
 use Rattle.contexts.specs.Context.{ulOf}

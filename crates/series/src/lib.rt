@@ -1,7 +1,7 @@
 // The start, with demand 3: what is accepted here has its lists follow the abstract ones over any series of calls.
 
-use areas::link::Address;
 use inputs::verdict::Verdict;
+use memory::address::Address;
 use registers::FCX;
 use registers::PC;
 use registers::PCXI;
@@ -25,8 +25,8 @@ pub fn start<'a>(
     image: &[u8],
     registers: Registers,
 ) -> Verdict
-    ensures { λ r. ⌜ (r ≡ startVerdict (lent (base .0) (now (window .entry)) (base2 .0) (now (window2 .entry))) (now (image .entry)) (pc registers) (fcx registers) (pcxi registers)) × Exactly (StartSays (lent (base .0) (now (window .entry)) (base2 .0) (now (window2 .entry))) (now (image .entry)) (pc registers) (fcx registers) (pcxi registers)) r ⌝ }
-    ensures { λ r. ⌜ ((r ≡ verdict.Accepted) → Follows (state registers (lent (base .0) (now (window .entry)) (base2 .0) (now (window2 .entry))))) ⌝ }
+    ensures { λ r. ⌜ (r ≡ startVerdict (lent base (now (window .entry)) base2 (now (window2 .entry))) (now (image .entry)) (pc registers) (fcx registers) (pcxi registers)) × Exactly (StartSays (lent base (now (window .entry)) base2 (now (window2 .entry))) (now (image .entry)) (pc registers) (fcx registers) (pcxi registers)) r ⌝ }
+    ensures { λ r. ⌜ ((r ≡ verdict.Accepted) → Follows (state registers (lent base (now (window .entry)) base2 (now (window2 .entry))))) ⌝ }
 {
     inputs::checks::try_start(
         base,

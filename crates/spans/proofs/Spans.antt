@@ -13,7 +13,9 @@ use Rattle.words.proofs.Integers.{lt-or-ge}
 use Rattle.words.proofs.Truth.{never, both-true}
 use Rattle.fields.specs.Psw.{PSW·PRS}
 use Rattle.fields.specs.Syscon.{SYSCON·PROTEN}
+use Rattle.memory.specs.Address.{asAddress}
 use Rattle.memory.specs.Memory.{Memory}
+use Rattle.memory.specs.declared.address.Address.{Address}
 use Rattle.registers.specs.Registers.{pc}
 use Rattle.registers.specs.declared.Registers.{Registers}
 use Rattle.events.specs.Traps.{CODE}
@@ -24,6 +26,7 @@ use Rattle.protection.specs.declared.range.Range.{Range}
 use Rattle.protection.specs.declared.range.Right.the-variants.{Execute}
 use Rattle.protection.specs.declared.range.Permit.{Permit}
 use Rattle.protection.specs.declared.range.Permit.the-variants.{Unnamed, By}
+use Rattle.protection.specs.declared.access.Check.{Check}
 use Rattle.protection.specs.declared.access.Check.the-variants.{Passes, Fails}
 use Rattle.protection.proofs.Ranges.{ranges-at}
 use Rattle.protection.proofs.Searches.{lowest-says, one-of-all, below-upper, onward}
@@ -35,59 +38,60 @@ use Rattle.image.specs.Marks.{longOnly, markEntry, markIndex, slotOf}
 use Rattle.image.specs.declared.marks.Guide.{Guide}
 use Rattle.image.specs.Rules.{ImageRight}
 use Rattle.image.specs.Fetch.{nextAfter, instructionAt, fetchOf}
-use Rattle.image.specs.declared.fetch.Fetched.the-variants.{Found, Nothing}
+use Rattle.image.specs.declared.fetch.Fetched.the-variants.{Nothing}
 use Rattle.image.specs.declared.fetch.Rest.{Rest}
 use Rattle.image.specs.declared.fetch.InBody.{InBody}
 use Rattle.image.proofs.Addresses.{after-low, after-high, after-less, after-join, after-plus}
 use Rattle.image.proofs.Walks.{Walked, nowhere, somewhere, walked, walk-before, turn-found, turn-on, turn-end}
 use Rattle.image.proofs.Rests.{rest-of, entry-begins}
 use Rattle.image.proofs.Fetches.{rest-bounds, rest-long, next, fetch-next}
-use Rattle.entries.specs.Entry.{trapOf}
-use Rattle.acts.specs.Steady.{Steady}
+use Rattle.acts.specs.declared.Control.{Control}
+use Rattle.acts.proofs.Steadiness.{Steady}
 use Rattle.execute.specs.Execute.{executeOf}
-use Rattle.decisions.specs.Phases.{instructionOf}
-use Rattle.spans.specs.Spans.{recordsBelow, fetchableBy, fetchableOf, foundOf, spanOf, aheadOf, begin, LiesInBody, Lies, SpanHolds, indexOn, namesIn, markedIndex, IndexIn, Current, placeOf, PlaceIn}
+use Rattle.decisions.specs.Beginning as beginning
+use Rattle.decisions.specs.Beginning.{checkBegins, fetchingAt}
+use Rattle.decisions.proofs.Beginnings.{fetchedStep, executes}
+use Rattle.spans.specs.Spans.{recordsBelow, fetchableBy, fetchableOf, foundOf, spanOf, begin, LiesInBody, Lies, SpanHolds, indexOn, namesIn, markedIndex, IndexIn, Current, placeOf, PlaceIn}
 use Rattle.spans.specs.declared.Span.{Span}
-use Rattle.spans.specs.declared.Ahead.the-variants.{Records, Traps}
 
 -- ---- of the records from pc on, those that protection lets be fetched
 -- of `most` records from pc on, whatever their lengths, the first n pass the fetch's check
 pub record Fetchable (core : List ℕ) (rs : List Range) (pc most n : ℕ) : Type 0 where
   pub some : 0 < n
   pub within : n ≤ most
-  pub passes : (a : ℕ) → pc ≤ a → a + 4 ≤ pc + 4 * n → a < 0xE000_0000 → checkOf core rs Execute a ≡ Passes
+  pub passes : (a : ℕ) → pc ≤ a → a + 4 ≤ pc + 4 * n → a < 0xE000_0000 → checkOf core rs Execute (asAddress a) ≡ Passes
 
 module _ (core : List ℕ) (rs : List Range) (pc most : ℕ) (n0 : 0 < most) where
   all-unasked : SYSCON·PROTEN (getD core 9 0) ≡ false → Fetchable core rs pc most most
-  all-unasked p = record { some = n0; within = omega arith; passes = λ a l h b. sym (unasked core rs Execute a b p) }
+  all-unasked p = record { some = n0; within = omega arith; passes = λ a l h b. sym (unasked core rs Execute (asAddress a) b p) }
 
-  the-first : checkOf core rs Execute pc ≡ Passes → Fetchable core rs pc most 1
+  the-first : checkOf core rs Execute (asAddress pc) ≡ Passes → Fetchable core rs pc most 1
   the-first p =
       record {
         some = omega arith;
         within = n0;
-        passes = λ a l h b. let e : pc ≡ a = omega arith in subst (λ (a : ℕ). checkOf core rs Execute a ≡ Passes) e p;
+        passes = λ a l h b. let e : pc ≡ a = omega arith in subst (λ (a : ℕ). checkOf core rs Execute (asAddress a) ≡ Passes) e p;
       }
 
   -- below the upper bound of a range that permits the first
-  by-range : (k n : ℕ) → SYSCON·PROTEN (getD core 9 0) ≡ true → PermittedBy rs (PSW·PRS (getD core 1 0)) Execute pc k → 0 < n → n ≤ most → pc + 4 * n < getD rs k noRange .upper + 4 → Fetchable core rs pc most n
+  by-range : (k n : ℕ) → SYSCON·PROTEN (getD core 9 0) ≡ true → PermittedBy rs (PSW·PRS (getD core 1 0)) Execute (asAddress pc) k → 0 < n → n ≤ most → pc + 4 * n < getD rs k noRange .upper + 4 → Fetchable core rs pc most n
   by-range k n p a s w u =
       record {
         some = s;
         within = w;
-        passes = λ x l h b. sym (allowed core rs Execute x k b p (onward rs (PSW·PRS (getD core 1 0)) Execute pc k a x l (omega arith)));
+        passes = λ x l h b. sym (allowed core rs Execute (asAddress x) k b p (onward rs (PSW·PRS (getD core 1 0)) Execute (asAddress pc) k a (asAddress x) l (omega arith)));
       }
 
-  pub fetchable-says : checkOf core rs Execute pc ≡ Passes → Fetchable core rs pc most (fetchableOf core rs pc most)
+  pub fetchable-says : checkOf core rs Execute (asAddress pc) ≡ Passes → Fetchable core rs pc most (fetchableOf core rs pc most)
   unfolding fetchableOf
   fetchable-says h = by (SYSCON·PROTEN (getD core 9 0)) refl
     where
-      by-permit : SYSCON·PROTEN (getD core 9 0) ≡ true → (p : Permit) → Lowest rs (PSW·PRS (getD core 1 0)) Execute pc p → Fetchable core rs pc most (fetchableBy rs pc most p)
-      by-permit e (By k) l = let u = below-upper rs (PSW·PRS (getD core 1 0)) Execute pc k (l .one) in by-range k (fetchableBy rs pc most (By k)) e (l .one) (omega arith) (omega arith) (omega arith)
+      by-permit : SYSCON·PROTEN (getD core 9 0) ≡ true → (p : Permit) → Lowest rs (PSW·PRS (getD core 1 0)) Execute (asAddress pc) p → Fetchable core rs pc most (fetchableBy rs pc most p)
+      by-permit e (By k) l = let u = below-upper rs (PSW·PRS (getD core 1 0)) Execute (asAddress pc) k (l .one) in by-range k (fetchableBy rs pc most (By k)) e (l .one) (omega arith) (omega arith) (omega arith)
       by-permit e Unnamed l = the-first h
 
-      by : (b : Bool) → SYSCON·PROTEN (getD core 9 0) ≡ b → Fetchable core rs pc most (cond b (fetchableBy rs pc most (lowestOf rs (PSW·PRS (getD core 1 0)) Execute pc)) most)
-      by true e = by-permit e (lowestOf rs (PSW·PRS (getD core 1 0)) Execute pc) (lowest-says rs Execute pc (PSW·PRS (getD core 1 0)))
+      by : (b : Bool) → SYSCON·PROTEN (getD core 9 0) ≡ b → Fetchable core rs pc most (cond b (fetchableBy rs pc most (lowestOf rs (PSW·PRS (getD core 1 0)) Execute (asAddress pc))) most)
+      by true e = by-permit e (lowestOf rs (PSW·PRS (getD core 1 0)) Execute (asAddress pc)) (lowest-says rs Execute (asAddress pc) (PSW·PRS (getD core 1 0)))
       by false e = all-unasked e
 
 -- the number by cases
@@ -96,19 +100,19 @@ module _ (core : List ℕ) (rs : List Range) (pc most : ℕ) where
   unfolding fetchableOf
   fetch-all e = rw e
 
-  pub fetch-by : (p : Permit) → SYSCON·PROTEN (getD core 9 0) ≡ true → p ≡ lowestOf rs (PSW·PRS (getD core 1 0)) Execute pc → fetchableBy rs pc most p ≡ fetchableOf core rs pc most
+  pub fetch-by : (p : Permit) → SYSCON·PROTEN (getD core 9 0) ≡ true → p ≡ lowestOf rs (PSW·PRS (getD core 1 0)) Execute (asAddress pc) → fetchableBy rs pc most p ≡ fetchableOf core rs pc most
   unfolding fetchableOf
   fetch-by p e q = rw (e, ← q)
 
 -- the upper bound as the words have it
-module _ (ws core : List ℕ) (address k : ℕ) (a : PermittedBy (rangesIn ws) (PSW·PRS (getD core 1 0)) Execute address k) where
+module _ (ws core : List ℕ) (address : Address) (k : ℕ) (a : PermittedBy (rangesIn ws) (PSW·PRS (getD core 1 0)) Execute address k) where
   pub range-below : k < 32
   range-below = one-of-all (rangesIn ws) (PSW·PRS (getD core 1 0)) Execute address k (omega arith) a
 
   pub upper-is : getD ws (3 * k + 1) 0 ≡ getD (rangesIn ws) k noRange .upper
   upper-is = sym (ap (λ (g : Range). g .upper) (ranges-at ws k range-below))
 
-  pub below-bound : address < getD ws (3 * k + 1) 0
+  pub below-bound : address .0 < getD ws (3 * k + 1) 0
   below-bound = rw upper-is (below-upper (rangesIn ws) (PSW·PRS (getD core 1 0)) Execute address k a)
 
 -- ---- the span at pc
@@ -154,16 +158,17 @@ stretches img false pc n g h =
 
 pub span-of : {img core : List ℕ} {rs : List Range} (pc n : ℕ) (long : Bool) (s : Span) → ImageRight img → (long ≡ true → longOnly img ≡ true) → 0 < restOf img pc .records → Fetchable core rs pc (restOf img pc .records) n
     → Stretches img long pc n (restOf img pc .at) s → SpanHolds img long core rs s
+unfolding fetchingAt
 span-of {img} {core} {rs} pc n long s g p h f t =
     let b = rest-bounds img g pc h in
     let w = f .within in
     let at = restOf img pc .at in
     let most = restOf img pc .records in
     record {
-      passes = λ j l.
-          rw (t .from, t .at-is) (f .passes (addressAfter j img at pc) (omega (arith, after-low j img at pc)) (let k : j < n = omega (arith, t .records) in omega (arith, after-high j img at pc))
-          (let k : j < n = omega (arith, t .records) in omega (arith, after-less j most img at pc (omega arith), b .below)));
-      found = λ j l. rw (t .from, t .at-is) (fetch-next img g pc j (omega (arith, t .records)));
+      fetched = λ j l.
+          let k : j < n = omega (arith, t .records) in
+          let c = f .passes (addressAfter j img at pc) (omega (arith, after-low j img at pc)) (omega (arith, after-high j img at pc)) (omega (arith, after-less j most img at pc (omega arith), b .below)) in
+          rw (t .from, t .at-is, c, fetch-next img g pc j (omega (arith, t .records))) refl;
       fields = λ j l. rw (t .at-is) (next img g pc j (omega (arith, t .records)) .fields);
       lies =
           record {
@@ -179,48 +184,28 @@ span-of {img} {core} {rs} pc n long s g p h f t =
 
 -- ---- the traps of the fetch
 module _ (img core : List ℕ) (rs : List Range) where
-  pub leads-denied : (t : Trap) → Fails t ≡ checkOf core rs Execute (getD core 0 0) → (r : Registers) (m : Memory) → r .core ≡ core → instructionOf img r rs m ≡ trapOf t (pc r) r m
-  unfolding instructionOf
-  leads-denied t h r m e =
-      let c : checkOf (r .core) rs Execute (pc r) ≡ Fails t = subst (λ (x : List ℕ). checkOf x rs Execute (getD x 0 0) ≡ Fails t) (sym e) (sym h) in
-      rw c
-
-  pub leads-nothing : Passes ≡ checkOf core rs Execute (getD core 0 0) → Nothing ≡ fetchOf img (getD core 0 0) → (r : Registers) (m : Memory) → r .core ≡ core → instructionOf img r rs m ≡ trapOf CODE (pc r) r m
-  unfolding instructionOf
-  leads-nothing h n r m e =
-      let c : checkOf (r .core) rs Execute (pc r) ≡ Passes = subst (λ (x : List ℕ). checkOf x rs Execute (getD x 0 0) ≡ Passes) (sym e) (sym h) in
-      let f : fetchOf img (pc r) ≡ Nothing = subst (λ (x : List ℕ). fetchOf img (getD x 0 0) ≡ Nothing) (sym e) (sym n) in
-      rw (c, f)
-
--- ---- what lies at PC, by cases
-module _ (img : List ℕ) (long : Bool) (core : List ℕ) (rs : List Range) where
-  pub ahead-denied : (t : Trap) → Fails t ≡ checkOf core rs Execute (getD core 0 0) → Traps t ≡ aheadOf img long core rs
-  unfolding aheadOf
+  pub ahead-denied : (t : Trap) → Fails t ≡ checkOf core rs Execute (asAddress (getD core 0 0)) → fetchingAt img core rs (getD core 0 0) ≡ beginning.Traps t
+  unfolding fetchingAt
   ahead-denied t h = rw (← h)
 
-  pub ahead-nothing : Passes ≡ checkOf core rs Execute (getD core 0 0) → restOf img (getD core 0 0) .records ≡ 0 → Traps CODE ≡ aheadOf img long core rs
-  unfolding aheadOf
-  ahead-nothing h n = rw (← h, eq-eqb _ _ n)
-
-  pub ahead-records : Passes ≡ checkOf core rs Execute (getD core 0 0) → (restOf img (getD core 0 0) .records ≡ 0 → ⊥) → Records (spanOf img long (getD core 0 0) (fetchableOf core rs (getD core 0 0) (restOf img (getD core 0 0) .records))) ≡ aheadOf img long core rs
-  unfolding aheadOf
-  ahead-records h n = rw (← h, ne-eqb _ _ n)
+  pub ahead-nothing : Passes ≡ checkOf core rs Execute (asAddress (getD core 0 0)) → Nothing ≡ fetchOf img (getD core 0 0) → fetchingAt img core rs (getD core 0 0) ≡ beginning.Traps CODE
+  unfolding fetchingAt
+  ahead-nothing h n = rw (← h, ← n)
 
 -- ---- an instruction of a span
 module _ {img : List ℕ} (r : Registers) {rs : List Range} {long : Bool} {s : Span} (h : SpanHolds img long (r .core) rs s) where
-  pub in-span : (k : ℕ) → k < s .records → pc r ≡ begin img s k → (m : Memory) → executeOf (instructionAt img (s .at + 8 * k) (pc r)) r rs m ≡ instructionOf img r rs m
-  unfolding instructionOf
-  in-span k l e m =
-      let c : checkOf (r .core) rs Execute (pc r) ≡ Passes = rw e (h .passes k l) in
-      let f : fetchOf img (pc r) ≡ Found (instructionAt img (s .at + 8 * k) (pc r)) = rw e (h .found k l) in
-      rw (c, f)
+  pub in-span : (k : ℕ) → k < s .records → pc r ≡ begin img s k → (m : Memory) → executeOf (instructionAt img (s .at + 8 * k) (pc r)) r rs m ≡ fetchedStep img r rs m
+  in-span k l e m = executes img r rs m (instructionAt img (s .at + 8 * k) (pc r)) (rw e (h .fetched k l))
 
   -- the span holds while PROTEN and PRS stay
   pub span-steady : (q : Registers) → Steady r q → SpanHolds img long (q .core) rs s
+  unfolding fetchingAt
   span-steady q x =
       record {
-        passes = λ j l. same-check (r .core) rs Execute (begin img s j) (q .core) (omega (arith, h .lies .below, after-less j (s .records) img (s .at) (s .from) (omega arith))) (ap SYSCON·PROTEN (x .protection)) (x .range-set) ∙ h .passes j l;
-        found = h .found;
+        fetched = λ j l.
+            ap (λ (c : Check). checkBegins c (fetchOf img (begin img s j)))
+            (same-check (r .core) rs Execute (asAddress (begin img s j)) (q .core) (omega (arith, h .lies .below, after-less j (s .records) img (s .at) (s .from) (omega arith))) (ap (λ (c : Control). SYSCON·PROTEN (c .syscon)) (x .same)) (ap (λ (c : Control). c .prs) (x .same)))
+            ∙ h .fetched j l;
         fields = h .fields;
         lies = h .lies;
       }

@@ -5,21 +5,15 @@ use mathlib.Core.Bool.{Bool, true, false, cond, _&&_}
 use mathlib.Core.List.{List}
 use lib.ListN.{length, getD}
 use lib.Dec.{ltb, leb, eqb}
-use Rattle.memory.specs.Memory.{Memory}
+use Rattle.memory.specs.Address.{asAddress}
 use Rattle.fields.specs.Psw.{PSW·PRS}
 use Rattle.fields.specs.Syscon.{SYSCON·PROTEN}
-use Rattle.events.specs.Traps.{CODE}
 use Rattle.registers.specs.Core.{PC, PSW, SYSCON}
-use Rattle.registers.specs.Registers.{pc}
-use Rattle.registers.specs.declared.Registers.{Registers}
 use Rattle.protection.specs.Range.{noRange, lowestOf}
-use Rattle.protection.specs.Access.{checkOf}
 use Rattle.protection.specs.declared.range.Range.{Range}
 use Rattle.protection.specs.declared.range.Right.the-variants.{Execute}
 use Rattle.protection.specs.declared.range.Permit.{Permit}
 use Rattle.protection.specs.declared.range.Permit.the-variants.{Unnamed, By}
-use Rattle.protection.specs.declared.access.Check.{Check}
-use Rattle.protection.specs.declared.access.Check.the-variants.{Passes, Fails}
 use Rattle.image.specs.Lengths.{addressAfter}
 use Rattle.image.specs.Table.{entryAt}
 use Rattle.image.specs.Rest.{bodyWalk, restOf, entryOf, Begins}
@@ -27,9 +21,8 @@ use Rattle.image.specs.Fetch.{instructionAt, fetchOf, FieldsHold}
 use Rattle.image.specs.Marks.{markEntry, markIndex, slotOf, biasOf}
 use Rattle.image.specs.declared.marks.Guide.{Guide}
 use Rattle.image.specs.declared.fetch.InBody.{InBody}
-use Rattle.image.specs.declared.fetch.Fetched.the-variants.{Found}
-use Rattle.entries.specs.Entry.{trapOf}
-use Rattle.decisions.specs.Phases.{instructionOf}
+use Rattle.decisions.specs.Beginning as beginning
+use Rattle.decisions.specs.Beginning.{Executes, fetchingAt}
 use Rattle.spans.specs.declared.Span.{Span}
 use Rattle.spans.specs.declared.Ahead.{Ahead}
 use Rattle.spans.specs.declared.Ahead.the-variants.{Records, Traps}
@@ -46,7 +39,7 @@ fetchableBy rs pc most Unnamed = 1
 -- of `most` records from pc on, of which the first passes the fetch's check, how many surely pass it: all where protection is off; otherwise as far as the lowest range that permits the first
 unfoldable pub fetchableOf : List ℕ → List Range → ℕ → ℕ → ℕ
 fetchableOf core rs pc most =
-    cond (SYSCON·PROTEN (getD core SYSCON 0)) (fetchableBy rs pc most (lowestOf rs (PSW·PRS (getD core PSW 0)) Execute pc)) most
+    cond (SYSCON·PROTEN (getD core SYSCON 0)) (fetchableBy rs pc most (lowestOf rs (PSW·PRS (getD core PSW 0)) Execute (asAddress pc))) most
 
 -- the records from pc on, and the place of their body's entry: told only where the image is not known to have no short form
 abbrev pub foundOf : List ℕ → Bool → ℕ → InBody
@@ -62,16 +55,6 @@ spanOf img true pc n = span pc n (restOf img pc .at) n 0 0 0
 spanOf img false pc n =
     let e = entryAt img (entryOf img pc) in
     span pc n (restOf img pc .at) 0 (entryOf img pc + 1) (e .records - restOf img pc .records) (biasOf e)
-
-abbrev pub aheadBy : List ℕ → Bool → List ℕ → List Range → ℕ → Check → Ahead
-aheadBy img long core rs pc (Fails t) = Traps t
-aheadBy img long core rs pc Passes =
-    let n = restOf img pc .records in
-    cond (eqb n 0) (Traps CODE) (Records (spanOf img long pc (fetchableOf core rs pc n)))
-
--- what lies at PC: the trap of the fetch's check; 4/1 where no record begins there; otherwise the span of the records that surely pass the check
-unfoldable pub aheadOf : List ℕ → Bool → List ℕ → List Range → Ahead
-aheadOf img long core rs = let pc = getD core PC 0 in aheadBy img long core rs pc (checkOf core rs Execute pc)
 
 -- where the record with index j of the span begins
 abbrev pub begin : List ℕ → Span → ℕ → ℕ
@@ -97,8 +80,7 @@ pub record Lies (img : List ℕ) (long : Bool) (s : Span) : Type 0 where
 
 -- each record of the span is fetched at its address
 pub record SpanHolds (img : List ℕ) (long : Bool) (core : List ℕ) (rs : List Range) (s : Span) : Type 0 where
-  pub passes : (j : ℕ) → j < s .records → checkOf core rs Execute (begin img s j) ≡ Passes
-  pub found : (j : ℕ) → j < s .records → fetchOf img (begin img s j) ≡ Found (instructionAt img (s .at + 8 * j) (begin img s j))
+  pub fetched : (j : ℕ) → j < s .records → fetchingAt img core rs (begin img s j) ≡ Executes (instructionAt img (s .at + 8 * j) (begin img s j))
   pub fields : (j : ℕ) → j < s .records → (q : ℕ) → FieldsHold (instructionAt img (s .at + 8 * j) q)
   pub lies : Lies img long s
 
@@ -142,7 +124,9 @@ placeOf img guide marks s at next pc =
 abbrev pub PlaceIn : List ℕ → Span → ℕ → ℕ → Type 0
 PlaceIn img s pc at = at < s .end → (k : ℕ) × (k < s .records) × (at ≡ s .at + 8 * k) × (pc ≡ begin img s k)
 
--- what lies at PC: a span that begins there, or the trap of the instruction's fetch
-abbrev pub Leads : List ℕ → Bool → List ℕ → List Range → Ahead → Type 0
-Leads img long core rs (Records s) = (s .from ≡ getD core PC 0) × (0 < s .records) × SpanHolds img long core rs s
-Leads img long core rs (Traps t) = (r : Registers) (m : Memory) → r .core ≡ core → instructionOf img r rs m ≡ trapOf t (pc r) r m
+-- what lies at PC: the trap of the fetch, or the span of the records that surely pass its check
+abbrev pub LiesAhead : List ℕ → Bool → List ℕ → List Range → Ahead → Type 0
+LiesAhead img long core rs (Traps t) = fetchingAt img core rs (getD core PC 0) ≡ beginning.Traps t
+LiesAhead img long core rs (Records s) =
+    let pc = getD core PC 0 in
+    (s ≡ spanOf img long pc (fetchableOf core rs pc (restOf img pc .records))) × (s .from ≡ pc) × (0 < s .records) × SpanHolds img long core rs s

@@ -10,6 +10,7 @@ use image::fetch::rest_long;
 use image::marks::Guide;
 use image::marks::bias_of;
 use image::table::read_entry;
+use memory::address::as_address;
 use protection::access::Check;
 use protection::access::check_access;
 use protection::range::Permit;
@@ -20,12 +21,13 @@ use registers::PSW;
 use registers::SYSCON;
 ghost use mathlib.Core.Path.{_≡_};
 ghost use Prim.Native.Nat.{_≤_, _<_};
+ghost use Rattle.memory.specs.Address.{asAddress};
 ghost use Rattle.protection.specs.Range.{rangesIn};
 ghost use Rattle.protection.specs.Access.{checkOf};
 ghost use Rattle.protection.specs.declared.access.Check.the-variants.{Passes};
 ghost use Rattle.image.specs.Records.{ImageHolds};
 ghost use Rattle.image.specs.Marks.{Guides};
-ghost use Rattle.spans.specs.Spans.{recordsBelow, fetchableOf, foundOf, spanOf, aheadOf, Leads};
+ghost use Rattle.spans.specs.Spans.{recordsBelow, fetchableOf, foundOf, spanOf, LiesAhead};
 
 // So many records from an address on, from a byte of the image to another, and how many of them are known to be long: all or none. Where none is, also the body's entry, from 1, the index of the span's first record in the body, and what the body's marks stand by.
 pub struct Span {
@@ -55,7 +57,7 @@ fn records_below(upper: u32, pc: u32) -> u32
 
 // Of so many records from pc on, how many protection lets be fetched, where it lets the first.
 fn fetchable(core: &[u32; 10], words: &[u32; 96], pc: u32, records: u32) -> u32
-    requires { ⌜ (checkOf (now core) (rangesIn (now words)) Right.Execute pc ≡ Passes) × (0 < records) ⌝ }
+    requires { ⌜ (checkOf (now core) (rangesIn (now words)) Right.Execute (asAddress pc) ≡ Passes) × (0 < records) ⌝ }
     ensures { λ r. ⌜ r ≡ fetchableOf (now (core .entry)) (rangesIn (now (words .entry))) pc records ⌝ }
 {
     if !fields::syscon::protection(core[SYSCON]) {
@@ -65,7 +67,7 @@ fn fetchable(core: &[u32; 10], words: &[u32; 96], pc: u32, records: u32) -> u32
         words,
         fields::psw::protection_set(core[PSW]),
         Right::Execute,
-        pc,
+        as_address(pc),
     ) {
         Permit::Unnamed => 1,
         Permit::By(k) => {
@@ -132,11 +134,10 @@ pub fn look_ahead(
     words: &[u32; 96],
 ) -> Ahead
     requires { ⌜ ImageHolds (now image) × Guides (now image) guide (now marks) ⌝ }
-    ensures { λ r. ⌜ r ≡ aheadOf (now (image .entry)) (guide .long) (now (core .entry)) (rangesIn (now (words .entry))) ⌝ }
-    ensures { λ r. ⌜ Leads (now (image .entry)) (guide .long) (now (core .entry)) (rangesIn (now (words .entry))) r ⌝ }
+    ensures { λ r. ⌜ LiesAhead (now (image .entry)) (guide .long) (now (core .entry)) (rangesIn (now (words .entry))) r ⌝ }
 {
     let pc = core[PC];
-    match check_access(core, words, Right::Execute, pc) {
+    match check_access(core, words, Right::Execute, as_address(pc)) {
         Check::Fails(t) => Ahead::Traps(t),
         Check::Passes => {
             let found = rest_guided(image, guide, marks, pc);

@@ -4,6 +4,7 @@ use mathlib.Core.Bool.{cond}
 use mathlib.Core.List.{List, [], _∷_}
 use lib.ListN.{length, replicate}
 use lib.Dec.{ltb, leb}
+use Rattle.memory.specs.Address.{asAddress}
 use Rattle.memory.specs.Word.{wordAt, putWord}
 use Rattle.memory.specs.Memory.{windows, Memory, memory}
 use Rattle.registers.specs.Registers.{registers, pc, fcx, pcxi}
@@ -26,7 +27,7 @@ startBytes = linked 64
 
 -- a window of these bytes at its address, and a second one of length 0
 abbrev pub windowOf : List ℕ → Memory
-windowOf bytes = memory (windows 0xD000_0000 (length bytes) 0) bytes
+windowOf bytes = memory (windows (asAddress 0xD000_0000) (length bytes) (asAddress 0)) bytes
 
 -- the first load address: the image's second word (an image without one is refused by rule 2)
 unfoldable pub firstAddress : List ℕ → ℕ

@@ -1,11 +1,11 @@
 // The checks and the step with one window: a second one of length 0 is lent beside it.
 
 use crate::start::BASE;
-use areas::link::Address;
 use inputs::checks::try_start;
 use inputs::verdict::Verdict;
 use machine::answer::Stepped;
 use machine::steps::step_accepted;
+use memory::address::Address;
 use protection::range::Range;
 use registers::Registers;
 ghost use mathlib.Core.Path.{_≡_};

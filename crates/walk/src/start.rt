@@ -1,6 +1,6 @@
 // The start of a walk: the image's buffer, the areas of the window linked ascending, and the registers.
 
-use areas::link::Address;
+use memory::address::Address;
 use memory::put_word;
 use memory::word_at;
 use protection::range::Range;

@@ -15,7 +15,7 @@ use Rattle.fields.specs.Request.{requests, clearedOf}
 use Rattle.memory.specs.Memory.{Memory}
 use Rattle.memory.specs.Word.{wordAt, wordsAt, putWord, putWords}
 use Rattle.registers.specs.Registers.{plusOf}
-use Rattle.areas.specs.declared.link.Link.{Link}
+use Rattle.fields.specs.declared.link.Link.{Link}
 use Rattle.areas.specs.declared.link.Place.the-variants.{At}
 use Rattle.areas.specs.Place.{placedAt, spotAt, placedIn, placeOf}
 use Rattle.lists.specs.Lists.{count}

@@ -1,7 +1,7 @@
 -- The abstract lists of the series, as it begins, where no area is left, and as it ends.
 use Prim.Native.Nat.{ℕ}
 use mathlib.Core.List.{[], _∷_}
-use Rattle.areas.specs.declared.link.Link.{Link}
+use Rattle.fields.specs.declared.link.Link.{Link}
 use Rattle.contexts.specs.declared.context.Half.the-variants.{Upper, Lower}
 use Rattle.series.specs.Abstract.{SavedContext, context, AbstractLists, lists}
 

@@ -2,6 +2,7 @@
 use Prim.Native.Nat.{ℕ, _/_, _%_, _^_}
 use mathlib.Core.List.{List, [], _∷_, _++_}
 use lib.ListN.{replicate}
+use Rattle.memory.specs.Address.{asAddress}
 use Rattle.memory.specs.Memory.{lent}
 use Rattle.registers.specs.Registers.{registers}
 use Rattle.series.specs.Calls.{State, state}
@@ -44,4 +45,4 @@ window2 = inBytes (linked 0xD_0001) ++ inBytes upperWords ++ inBytes (replicate 
 
 -- they lie at D0000000 and C0000000
 abbrev pub start : State
-start = state (registers startD startA startCore) (lent 0xD000_0000 window 0xC000_0000 window2)
+start = state (registers startD startA startCore) (lent (asAddress 0xD000_0000) window (asAddress 0xC000_0000) window2)

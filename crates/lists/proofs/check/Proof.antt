@@ -14,7 +14,7 @@ walk-requires-2 : tie.Need-walk-requires-2
 walk-requires-2 c κs =
     let d = c .before .before .before .before in
     let a = d .before .before .before .before .before .args in
-    let n = walk-length 2049 (lent (a .base .0) (a .window .now) (a .base2 .0) (a .window2 .now)) (d .before .before .link-of .result) (replicate 2048 false) in
+    let n = walk-length 2049 (lent (a .base) (a .window .now) (a .base2) (a .window2 .now)) (d .before .before .link-of .result) (replicate 2048 false) in
     (d .before .before .before .before .before .pre, ap (λ (w : Walked). length (w .met)) (d .walk .ensures) ∙ n)
 
 returns : tie.Need-returns
@@ -22,19 +22,19 @@ unfolding listsOf
 returns c =
     let d = c .before .before .before .before .before in
     let a = d .before .before .before .before .before .args in
-    lists-exactly (lent (a .base .0) (a .window .now) (a .base2 .0) (a .window2 .now)) (d .before .before .before .before .before .pre) (a .fcx) (a .pcxi) _ (rw (← d .before .before .link-of .ensures, ← d .walk .ensures, c .before .before .before .enum-told .given .1, ← c .before .before .link-of2 .ensures, ← c .walk2 .ensures))
+    lists-exactly (lent (a .base) (a .window .now) (a .base2) (a .window2 .now)) (d .before .before .before .before .before .pre) (a .fcx) (a .pcxi) _ (rw (← d .before .before .link-of .ensures, ← d .walk .ensures, c .before .before .before .enum-told .given .1, ← c .before .before .link-of2 .ensures, ← c .walk2 .ensures))
 
 returns-2 : tie.Need-returns-2
 unfolding listsOf
 returns-2 c =
     let a = c .before .before .before .before .before .before .before .args in
-    lists-exactly (lent (a .base .0) (a .window .now) (a .base2 .0) (a .window2 .now)) (c .before .before .before .before .before .before .before .pre) (a .fcx) (a .pcxi) _ (rw (← c .before .before .before .before .link-of .ensures, ← c .before .before .walk .ensures, c .enum-told2 .given .1))
+    lists-exactly (lent (a .base) (a .window .now) (a .base2) (a .window2 .now)) (c .before .before .before .before .before .before .before .pre) (a .fcx) (a .pcxi) _ (rw (← c .before .before .before .before .link-of .ensures, ← c .before .before .walk .ensures, c .enum-told2 .given .1))
 
 returns-3 : tie.Need-returns-3
 unfolding listsOf
 returns-3 c =
     let a = c .before .before .before .before .before .before .before .args in
-    lists-exactly (lent (a .base .0) (a .window .now) (a .base2 .0) (a .window2 .now)) (c .before .before .before .before .before .before .before .pre) (a .fcx) (a .pcxi) _ (rw (← c .before .before .before .before .link-of .ensures, ← c .before .before .walk .ensures, c .enum-told3 .given .1))
+    lists-exactly (lent (a .base) (a .window .now) (a .base2) (a .window2 .now)) (c .before .before .before .before .before .before .before .pre) (a .fcx) (a .pcxi) _ (rw (← c .before .before .before .before .link-of .ensures, ← c .before .before .walk .ensures, c .enum-told3 .given .1))
 
 pub check-spec : {M : Type 1} → statement M
 check-spec =

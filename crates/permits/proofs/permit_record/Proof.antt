@@ -10,22 +10,22 @@ use Rattle.permits.proofs.Permitting.{of-none, of-data}
 use Rattle.permits.proofs.permit_record.Statement.{statement}
 use Rattle.permits.proofs.permit_record.Tie as tie
 
-mul-plus : tie.Need-mul-plus
+mul-data-address : tie.Need-mul-data-address
 unfolding instructionAt
-mul-plus c = omega (arith, c .wide .ensures, c .before .before .before .pre .1 .1)
+mul-data-address c = omega (arith, c .wide .ensures, c .before .before .before .pre .1 .1)
 
-element-copy-out-plus : tie.Need-element-copy-out-plus
+element-copy-out-data-address : tie.Need-element-copy-out-data-address
 unfolding instructionAt
-element-copy-out-plus c = omega (arith, c .wide .ensures, c .before .before .before .pre .1 .1)
+element-copy-out-data-address c = omega (arith, c .wide .ensures, c .before .before .before .pre .1 .1)
 
 returns : tie.Need-returns
-returns c = of-data _ _ (c .before .before .before .before .before .before .before .before .before .before .before .args .a .now) _ _ _ _ (rw (c .before .before .before .before .before .before .before .before .wide .ensures, c .before .before .before .before .before .before .word-at .ensures) at (c .before .before .before .before .before .plus .ensures)) data-access.Nothing (sym (c .enum-told .given .1) ∙ c .before .before .access-of .ensures ∙ ap (λ (x : ℕ). accessOf (operationOf x)) (c .before .before .before .operation-number .ensures)) (of-none _ _)
+returns c = of-data _ _ (c .before .before .before .before .before .before .before .before .before .before .before .args .a .now) _ _ _ _ (rw (c .before .before .before .before .before .before .before .before .wide .ensures, c .before .before .before .before .before .before .word-at .ensures) at (c .before .before .before .before .before .data-address .ensures)) data-access.Nothing (sym (c .enum-told .given .1) ∙ c .before .before .access-of .ensures ∙ ap (λ (x : ℕ). accessOf (operationOf x)) (c .before .before .before .operation-number .ensures)) (of-none _ _)
 
 returns-2 : tie.Need-returns-2
-returns-2 c = of-data _ _ (c .before .before .before .before .before .before .before .before .before .before .before .before .args .a .now) _ _ _ _ (rw (c .before .before .before .before .before .before .before .before .before .wide .ensures, c .before .before .before .before .before .before .before .word-at .ensures) at (c .before .before .before .before .before .before .plus .ensures)) data-access.Read (sym (c .before .enum-told2 .given .1) ∙ c .before .before .before .access-of .ensures ∙ ap (λ (x : ℕ). accessOf (operationOf x)) (c .before .before .before .before .operation-number .ensures)) (c .permit-for .ensures)
+returns-2 c = of-data _ _ (c .before .before .before .before .before .before .before .before .before .before .before .before .args .a .now) _ _ _ _ (rw (c .before .before .before .before .before .before .before .before .before .wide .ensures, c .before .before .before .before .before .before .before .word-at .ensures) at (c .before .before .before .before .before .before .data-address .ensures)) data-access.Read (sym (c .before .enum-told2 .given .1) ∙ c .before .before .before .access-of .ensures ∙ ap (λ (x : ℕ). accessOf (operationOf x)) (c .before .before .before .before .operation-number .ensures)) (c .permit-for .ensures)
 
 returns-3 : tie.Need-returns-3
-returns-3 c = of-data _ _ (c .before .before .before .before .before .before .before .before .before .before .before .before .args .a .now) _ _ _ _ (rw (c .before .before .before .before .before .before .before .before .before .wide .ensures, c .before .before .before .before .before .before .before .word-at .ensures) at (c .before .before .before .before .before .before .plus .ensures)) data-access.Write (sym (c .before .enum-told3 .given .1) ∙ c .before .before .before .access-of .ensures ∙ ap (λ (x : ℕ). accessOf (operationOf x)) (c .before .before .before .before .operation-number .ensures)) (c .permit-for2 .ensures)
+returns-3 c = of-data _ _ (c .before .before .before .before .before .before .before .before .before .before .before .before .args .a .now) _ _ _ _ (rw (c .before .before .before .before .before .before .before .before .before .wide .ensures, c .before .before .before .before .before .before .before .word-at .ensures) at (c .before .before .before .before .before .before .data-address .ensures)) data-access.Write (sym (c .before .enum-told3 .given .1) ∙ c .before .before .before .access-of .ensures ∙ ap (λ (x : ℕ). accessOf (operationOf x)) (c .before .before .before .before .operation-number .ensures)) (c .permit-for2 .ensures)
 
 pub permit-record-spec : {M : Type 1} → statement M
 permit-record-spec =
@@ -34,8 +34,8 @@ permit-record-spec =
     (λ c. search needs)
     (λ c. search needs)
     (λ c κs. search needs)
-    mul-plus
-    element-copy-out-plus
+    mul-data-address
+    element-copy-out-data-address
     (λ c. search needs)
     (λ c κs. search needs)
     (λ c κs. search needs)

@@ -13,7 +13,7 @@ returns-2 : tie.Need-returns-2
 returns-2 c = both-taken _ _ _ _ _ (rw (c .before .before .before .best-source .ensures .0) at (sym (c .before .taken .ensures) ∙ c .if2 .taken))
 
 returns-3 : tie.Need-returns-3
-returns-3 c = both-quiet _ _ _ _ _ (rw (c .before .before .before .before .before .before .best-source .ensures .0) at (sym (c .before .before .before .before .taken .ensures) ∙ c .before .before .before .if2 .left)) (c .before .permit-for .ensures) (c .permit-data .ensures)
+returns-3 c = both-quiet _ _ _ _ _ (rw (c .before .before .before .before .before .before .before .best-source .ensures .0) at (sym (c .before .before .before .before .before .taken .ensures) ∙ c .before .before .before .before .if2 .left)) (rw (c .before .before .as-address .ensures) at (c .before .permit-for .ensures)) (c .permit-data .ensures)
 
 pub permits-of-spec : {M : Type 1} → statement M
 permits-of-spec =
@@ -27,6 +27,7 @@ permits-of-spec =
     (λ c κs. search needs)
     returns-2
     (λ c. search needs)
+    (λ c κs. search needs)
     (λ c κs. search needs)
     (λ c κs. search needs)
     returns-3)

@@ -10,7 +10,7 @@ use Rattle.series.proofs.start.Tie as tie
 
 returns : tie.Need-returns
 returns c =
-    let s : State = state (c .before .before .before .before .before .before .before .args .t6) (lent (c .before .before .before .before .before .before .before .args .base .0) (c .before .before .before .before .before .before .before .args .window .now) (c .before .before .before .before .before .before .before .args .base2 .0) (c .before .before .before .before .before .before .before .args .window2 .now)) in
+    let s : State = state (c .before .before .before .before .before .before .before .args .t6) (lent (c .before .before .before .before .before .before .before .args .base) (c .before .before .before .before .before .before .before .args .window .now) (c .before .before .before .before .before .before .before .args .base2) (c .before .before .before .before .before .before .before .args .window2 .now)) in
     let e = c .try-start .ensures .0 .0 in
     (c .try-start .ensures .0, λ a. follows s _ (sym e ∙ a) (valid-of (c .before .before .before .before .before .before .before .good .1 .1 .1 .1 .1 .0) (start-even s _ (sym e ∙ a))) (joined-bytes (c .before .before .before .before .before .before .before .args .window .now) (c .before .before .before .before .before .before .before .args .window2 .now) (bytes-of (c .before .before .before .before .before .before .shared-slice-known .given)) (bytes-of (c .before .before .before .before .before .shared-slice-known2 .given))))
 

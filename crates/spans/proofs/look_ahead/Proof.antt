@@ -3,11 +3,10 @@ use native.Mathlib.Omega.{arith}
 use Prim.Native.Nat.{_<_}
 use mathlib.Core.Path.{refl, sym, ap, subst, _∙_}
 use Rattle.protection.specs.Range.{rangesIn}
-use Rattle.spans.specs.declared.Ahead.the-variants.{Records}
 use Rattle.image.specs.declared.fetch.InBody.{InBody}
 use Rattle.image.proofs.Images.{image-right}
 use Rattle.image.proofs.Fetches.{fetch-none}
-use Rattle.spans.proofs.Spans.{fetchable-says, stretches, span-of, ahead-denied, ahead-nothing, ahead-records, leads-denied, leads-nothing}
+use Rattle.spans.proofs.Spans.{fetchable-says, stretches, span-of, ahead-denied, ahead-nothing}
 use borrow.Author.Needs.{needs}
 use Rattle.spans.proofs.look_ahead.Statement.{statement}
 use Rattle.spans.proofs.look_ahead.Tie as tie
@@ -29,30 +28,30 @@ rest-guided-requires c κs = search needs
 
 returns : tie.Need-returns
 returns c =
-    let h = sym (c .before .before .before .before .enum-told .given .1) ∙ c .before .before .before .before .before .before .check-access .ensures in
+    let h = sym (c .before .before .before .before .enum-told .given .1) ∙ (rw (c .before .before .before .before .before .before .before .as-address .ensures) at (c .before .before .before .before .before .before .check-access .ensures)) in
     let n = sym (ap (λ (x : InBody). x .rest .records) (c .before .before .before .rest-guided .ensures)) ∙ c .if1 .taken in
-    (ahead-nothing _ _ _ _ h n, leads-nothing _ _ _ h (fetch-none _ _ n))
+    ahead-nothing _ _ _ h (fetch-none _ _ n)
 
 fetchable-requires : tie.Need-fetchable-requires
-fetchable-requires c κs = (sym (c .before .before .before .before .before .before .check-access .ensures) ∙ c .before .before .before .before .enum-told .given .1, omega (arith, c .if1 .left))
+fetchable-requires c κs = (sym (rw (c .before .before .before .before .before .before .before .as-address .ensures) at (c .before .before .before .before .before .before .check-access .ensures)) ∙ c .before .before .before .before .enum-told .given .1, omega (arith, c .if1 .left))
 
 span-of-requires : tie.Need-span-of-requires
 span-of-requires c κs =
-    let a = c .before .before .before .before .before .before .before .before .before .before .before .args in
+    let a = c .before .before .before .before .before .before .before .before .before .before .before .before .args in
     let n : 0 < c .before .before .before .before .rest-guided .result .rest .records = omega (arith, c .before .if1 .left) in
-    let w = fetchable-says (a .core .now) (rangesIn (a .words .now)) _ _ n (sym (c .before .before .before .before .before .before .before .check-access .ensures) ∙ c .before .before .before .before .before .enum-told .given .1) in
+    let w = fetchable-says (a .core .now) (rangesIn (a .words .now)) _ _ n (sym (rw (c .before .before .before .before .before .before .before .before .as-address .ensures) at (c .before .before .before .before .before .before .before .check-access .ensures)) ∙ c .before .before .before .before .before .enum-told .given .1) in
     let l = w .within in
-    (c .before .before .before .before .before .before .before .before .before .before .before .pre .0, c .before .before .before .before .rest-guided .ensures, n, omega (arith, c .fetchable .ensures))
+    (c .before .before .before .before .before .before .before .before .before .before .before .before .pre .0, c .before .before .before .before .rest-guided .ensures, n, omega (arith, c .fetchable .ensures))
 
 returns-2 : tie.Need-returns-2
-returns-2 c = let h = sym (c .before .t .given .1) ∙ c .before .before .before .check-access .ensures in (ahead-denied _ _ _ _ _ h, leads-denied _ _ _ _ h)
+returns-2 c = let h = sym (c .before .t .given .1) ∙ (rw (c .before .before .before .before .as-address .ensures) at (c .before .before .before .check-access .ensures)) in ahead-denied _ _ _ _ h
 
 returns-3 : tie.Need-returns-3
 returns-3 c =
-    let a = c .before .before .before .before .before .before .before .before .before .before .before .before .args in
-    let p = c .before .before .before .before .before .before .before .before .before .before .before .before .pre in
+    let a = c .before .before .before .before .before .before .before .before .before .before .before .before .before .args in
+    let p = c .before .before .before .before .before .before .before .before .before .before .before .before .before .pre in
     let g = image-right (a .image .now) (p .0) in
-    let h = c .before .before .before .before .before .before .before .before .check-access .ensures in
+    let h = rw (c .before .before .before .before .before .before .before .before .before .as-address .ensures) at (c .before .before .before .before .before .before .before .before .check-access .ensures) in
     let t = c .before .before .before .before .before .before .enum-told .given .1 in
     let e = c .before .before .before .before .before .rest-guided .ensures in
     let n : 0 < c .before .before .before .before .before .rest-guided .result .rest .records = omega (arith, c .before .before .if1 .left) in
@@ -61,13 +60,14 @@ returns-3 c =
     let l = rw e at (c .before .fetchable .ensures) in
     let s = rw l at (c .span-of .ensures) in
     let y = stretches (a .image .now) (a .guide .long) _ _ g m in
-    (ap Records s ∙ ahead-records _ _ _ _ (sym t ∙ h) (λ z. omega arith), rw s (y .from, rw (y .records) (f .some), span-of _ _ (a .guide .long) _ g (p .1 .long-only) m f y))
+    (s, rw s (y .from), rw s (rw (y .records) (f .some)), rw s (span-of _ _ (a .guide .long) _ g (p .1 .long-only) m f y))
 
 pub look-ahead-spec : {M : Type 1} → statement M
 look-ahead-spec =
     tie.close
     (tie.spec
     element-copy-out-pc
+    (λ c κs. search needs)
     check-access-requires
     enum-known-t
     enum-told

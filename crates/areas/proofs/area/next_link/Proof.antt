@@ -11,7 +11,7 @@ use Rattle.areas.proofs.area.next_link.Tie as tie
 word-at-requires : tie.Need-word-at-requires
 word-at-requires c κs =
     let p = c .before .before .before in
-    let m = lent (p .args .base .0) (p .args .window .now) (p .args .base2 .0) (p .args .window2 .now) in
+    let m = lent (p .args .base) (p .args .window .now) (p .args .base2) (p .args .window2 .now) in
     omega (arith, ap length (c .area .ensures) ∙ area-64 m (p .args .l) (p .pre .0) (p .pre .1))
 
 returns : tie.Need-returns

@@ -4,7 +4,7 @@ use Rattle.areas.proofs.link.spot_of.Statement.{statement}
 use Rattle.areas.proofs.link.spot_of.Tie as tie
 
 returns : tie.Need-returns
-returns c = rw (c .before .address-of .ensures) at (c .spot-at .ensures)
+returns c = rw (c .before .area-address .ensures) at (c .spot-at .ensures)
 
 pub spot-of-spec : {M : Type 1} → statement M
 spot-of-spec =

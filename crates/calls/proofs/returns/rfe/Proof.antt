@@ -19,7 +19,9 @@ returns-3 c = rw (← c .before .before .before .before .before .before .before 
 
 returns-4 : tie.Need-returns-4
 unfolding rfeOf doneOf
-returns-4 c = rw (← c .before .before .before .before .before .before .before .before .before .before .before .before .before .before .before .before .before .before .before .before .before .before .before .before .before .before .before .before .before .previous-context .ensures, c .before .before .before .before .before .before .before .before .before .before .before .before .before .before .before .before .before .before .before .before .before .before .before .before .before .before .before .enum-told .given .1, ← c .before .before .before .before .before .before .before .before .before .before .before .before .before .before .before .before .before .before .before .before .before .before .before .before .before .in-call .ensures, c .before .before .before .before .before .before .before .before .before .before .before .before .before .before .before .before .before .before .before .before .before .before .before .before .if1 .left, ← c .before .before .before .before .before .before .before .before .restore .ensures, c .before .before .enum-told3 .given .1, c .settled .ensures, c .before .before .before .before .before .before .before .before .before .before .before .before .before .before .control-of .ensures, c .before .before .before .before .before .before .before .before .before .before .before .before .before .before .before .before .before .before .before .before .before .before .new-pc .ensures, c .before .before .before .before .before .before .before .before .before .before .before .before .before .before .before .before .written .ensures, c .before .before .before .before .before .before .before .before .before .before .before .before .before .before .before .before .before .before .before .interrupts .ensures, c .before .before .before .before .before .before .before .before .before .before .before .before .before .before .before .before .before .priority .ensures)
+returns-4 c =
+    let w = rw (c .before .before .before .before .before .before .before .before .before .before .before .before .before .before .before .before .before .before .before .interrupts .ensures, c .before .before .before .before .before .before .before .before .before .before .before .before .before .before .before .before .before .priority .ensures) at (c .before .before .before .before .before .before .before .before .before .before .before .before .before .before .before .before .written .ensures) in
+    rw (← c .before .before .before .before .before .before .before .before .before .before .before .before .before .before .before .before .before .before .before .before .before .before .before .before .before .before .before .before .before .previous-context .ensures, c .before .before .before .before .before .before .before .before .before .before .before .before .before .before .before .before .before .before .before .before .before .before .before .before .before .before .before .enum-told .given .1, ← c .before .before .before .before .before .before .before .before .before .before .before .before .before .before .before .before .before .before .before .before .before .before .before .before .before .in-call .ensures, c .before .before .before .before .before .before .before .before .before .before .before .before .before .before .before .before .before .before .before .before .before .before .before .before .if1 .left, ← c .before .before .before .before .before .before .before .before .restore .ensures, c .before .before .enum-told3 .given .1, c .settled .ensures, c .before .before .before .before .before .before .before .before .before .before .before .before .before .before .control-of .ensures, c .before .before .before .before .before .before .before .before .before .before .before .before .before .before .before .before .before .before .before .before .before .before .new-pc .ensures, w)
 
 pub rfe-spec : {M : Type 1} → statement M
 rfe-spec =

@@ -3,7 +3,7 @@ use borrow.Author.Needs.{needs}
 use native.Mathlib.Omega.{arith}
 use lib.ListN.{getD}
 use Rattle.memory.specs.Memory.{lent}
-use Rattle.areas.specs.Link.{linkOf}
+use Rattle.fields.specs.Link.{linkOf}
 use Rattle.registers.specs.Core.{PCXI}
 use Rattle.contexts.specs.Restore.{loadOf}
 use Rattle.contexts.proofs.Returns.{read-area, read-64}
@@ -11,20 +11,20 @@ use Rattle.contexts.proofs.restore.load_lower.Statement.{statement}
 use Rattle.contexts.proofs.restore.load_lower.Tie as tie
 
 read-words-requires : tie.Need-read-words-requires
-read-words-requires c κs = (omega (arith, read-64 (lent (c .before .before .before .before .before .before .before .before .args .base) (c .before .before .before .before .before .before .before .before .args .window .now) (c .before .before .before .before .before .before .before .before .args .base2) (c .before .before .before .before .before .before .before .before .args .window2 .now)) (linkOf (getD (c .before .before .before .before .before .before .before .before .args .core .now) PCXI 0)) _ _ _ (c .before .area .ensures) (c .before .before .link-of .ensures) (c .before .before .before .before .before .before .before .before .pre .1)), omega (arith, c .read-words-arg .given .0 .1))
+read-words-requires c κs = (omega (arith, read-64 (lent (c .before .before .before .before .before .before .before .before .args .base) (c .before .before .before .before .before .before .before .before .args .window .now) (c .before .before .before .before .before .before .before .before .args .base2) (c .before .before .before .before .before .before .before .before .args .window2 .now)) (linkOf (getD (c .before .before .before .before .before .before .before .before .args .core .now) PCXI 0)) _ _ _ (c .before .area .ensures) (c .before .before .before .before .link-of .ensures) (c .before .before .before .before .before .before .before .before .pre .1)), omega (arith, c .read-words-arg .given .0 .1))
 
 read-words-requires-2 : tie.Need-read-words-requires-2
-read-words-requires-2 c κs = (omega (arith, read-64 (lent (c .before .before .before .before .before .before .before .before .before .before .args .base) (c .before .before .before .before .before .before .before .before .before .before .args .window .now) (c .before .before .before .before .before .before .before .before .before .before .args .base2) (c .before .before .before .before .before .before .before .before .before .before .args .window2 .now)) (linkOf (getD (c .before .before .before .before .before .before .before .before .before .before .args .core .now) PCXI 0)) _ _ _ (c .before .before .before .area .ensures) (c .before .before .before .before .link-of .ensures) (c .before .before .before .before .before .before .before .before .before .before .pre .1)), omega (arith, c .read-words-arg2 .given .0 .1))
+read-words-requires-2 c κs = (omega (arith, read-64 (lent (c .before .before .before .before .before .before .before .before .before .before .args .base) (c .before .before .before .before .before .before .before .before .before .before .args .window .now) (c .before .before .before .before .before .before .before .before .before .before .args .base2) (c .before .before .before .before .before .before .before .before .before .before .args .window2 .now)) (linkOf (getD (c .before .before .before .before .before .before .before .before .before .before .args .core .now) PCXI 0)) _ _ _ (c .before .before .before .area .ensures) (c .before .before .before .before .before .before .link-of .ensures) (c .before .before .before .before .before .before .before .before .before .before .pre .1)), omega (arith, c .read-words-arg2 .given .0 .1))
 
 word-at-requires : tie.Need-word-at-requires
-word-at-requires c κs = omega (arith, read-64 (lent (c .before .before .before .before .before .before .before .before .before .before .before .before .before .before .args .base) (c .before .before .before .before .before .before .before .before .before .before .before .before .before .before .args .window .now) (c .before .before .before .before .before .before .before .before .before .before .before .before .before .before .args .base2) (c .before .before .before .before .before .before .before .before .before .before .before .before .before .before .args .window2 .now)) (linkOf (getD (c .before .before .before .before .before .before .before .before .before .before .before .before .before .before .args .core .now) PCXI 0)) _ _ _ (c .before .before .before .before .before .before .before .area .ensures) (c .before .before .before .before .before .before .before .before .link-of .ensures) (c .before .before .before .before .before .before .before .before .before .before .before .before .before .before .pre .1))
+word-at-requires c κs = omega (arith, read-64 (lent (c .before .before .before .before .before .before .before .before .before .before .before .before .args .base) (c .before .before .before .before .before .before .before .before .before .before .before .before .args .window .now) (c .before .before .before .before .before .before .before .before .before .before .before .before .args .base2) (c .before .before .before .before .before .before .before .before .before .before .before .before .args .window2 .now)) (linkOf (getD (c .before .before .before .before .before .before .before .before .before .before .before .before .args .core .now) PCXI 0)) _ _ _ (c .before .before .before .before .before .area .ensures) (c .before .before .before .before .before .before .before .before .link-of .ensures) (c .before .before .before .before .before .before .before .before .before .before .before .before .pre .1))
 
 write-link-requires : tie.Need-write-link-requires
-write-link-requires c κs = c .before .before .before .before .before .before .before .before .before .before .before .before .before .before .before .before .before .pre .0
+write-link-requires c κs = c .before .before .before .before .before .before .before .before .before .before .before .before .before .before .before .pre .0
 
 returns : tie.Need-returns
 unfolding loadOf
-returns c = (rw (c .before .before .before .before .before .before .before .before .before .before .before .before .before .read-words .ensures, c .before .before .before .before .before .before .before .before .before .before .before .read-words2 .ensures, c .before .before .before .before .before .before .before .word-at .ensures, read-area (lent (c .before .before .before .before .before .before .before .before .before .before .before .before .before .before .before .before .before .before .before .before .before .before .args .base) (c .before .before .before .before .before .before .before .before .before .before .before .before .before .before .before .before .before .before .before .before .before .before .args .window .now) (c .before .before .before .before .before .before .before .before .before .before .before .before .before .before .before .before .before .before .before .before .before .before .args .base2) (c .before .before .before .before .before .before .before .before .before .before .before .before .before .before .before .before .before .before .before .before .before .before .args .window2 .now)) (linkOf (getD (c .before .before .before .before .before .before .before .before .before .before .before .before .before .before .before .before .before .before .before .before .before .before .args .core .now) PCXI 0)) _ _ _ (c .before .before .before .before .before .before .before .before .before .before .before .before .before .before .before .area .ensures) (c .before .before .before .before .before .before .before .before .before .before .before .before .before .before .before .before .link-of .ensures) (c .before .before .before .before .before .before .before .before .before .before .before .before .before .before .before .before .before .before .before .before .before .before .pre .1), c .before .before .before .before .before .before .before .before .link-of2 .ensures, c .before .before .before .before .write-link .ensures .0), c .before .before .before .before .write-link .ensures .1)
+returns c = (rw (c .before .before .before .before .before .before .before .before .before .before .before .read-words .ensures, c .before .before .before .before .before .before .before .before .before .read-words2 .ensures, c .before .before .before .before .before .before .before .word-at .ensures, read-area (lent (c .before .before .before .before .before .before .before .before .before .before .before .before .before .before .before .before .before .before .before .before .args .base) (c .before .before .before .before .before .before .before .before .before .before .before .before .before .before .before .before .before .before .before .before .args .window .now) (c .before .before .before .before .before .before .before .before .before .before .before .before .before .before .before .before .before .before .before .before .args .base2) (c .before .before .before .before .before .before .before .before .before .before .before .before .before .before .before .before .before .before .before .before .args .window2 .now)) (linkOf (getD (c .before .before .before .before .before .before .before .before .before .before .before .before .before .before .before .before .before .before .before .before .args .core .now) PCXI 0)) _ _ _ (c .before .before .before .before .before .before .before .before .before .before .before .before .before .area .ensures) (c .before .before .before .before .before .before .before .before .before .before .before .before .before .before .before .before .link-of .ensures) (c .before .before .before .before .before .before .before .before .before .before .before .before .before .before .before .before .before .before .before .before .pre .1), c .before .before .before .before .before .before .before .before .before .before .before .before .before .before .before .before .link-of .ensures, c .before .before .before .before .write-link .ensures .0), c .before .before .before .before .write-link .ensures .1)
 
 pub load-lower-spec : {M : Type 1} → statement M
 load-lower-spec =
@@ -36,8 +36,6 @@ load-lower-spec =
     read-words-requires
     read-words-requires-2
     (λ c. search needs)
-    (λ c. search needs)
-    (λ c κs. search needs)
     word-at-requires
     (λ c. search needs)
     (λ c. search needs)

@@ -8,11 +8,11 @@ use Rattle.fields.proofs.pcxi.saved.Tie as tie
 
 returns : tie.Need-returns
 unfolding pcxiOf
-returns c = rw (c .if1 .taken, number-isSet 8 _) (omega arith)
+returns c = rw (c .before .if1 .taken, number-isSet 8 _) (omega arith)
 
 returns-2 : tie.Need-returns-2
 unfolding pcxiOf
-returns-2 c = rw (c .if1 .left, number-isSet 8 _) (omega arith)
+returns-2 c = rw (c .before .if1 .left, number-isSet 8 _) (omega arith)
 
 pub saved-spec : {M : Type 1} → statement M
 saved-spec =

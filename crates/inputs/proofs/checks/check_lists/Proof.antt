@@ -11,7 +11,7 @@ use Rattle.inputs.proofs.checks.check_lists.Tie as tie
 try-lists-requires : tie.Need-try-lists-requires
 try-lists-requires c κs =
     let a = c .before .before .before .before .before .args in
-    let w : WindowsHold (lent (a .base .0) (a .window .now) (a .base2 .0) (a .window2 .now)) = rw (c .enum-told .given .1) at (c .before .before .check-windows .ensures .0 .1 .says) in
+    let w : WindowsHold (lent (a .base) (a .window .now) (a .base2) (a .window2 .now)) = rw (c .enum-told .given .1) at (c .before .before .check-windows .ensures .0 .1 .says) in
     windows-small _ w
 
 returns : tie.Need-returns

@@ -10,9 +10,9 @@ use Rattle.inputs.proofs.checks.check_windows.Tie as tie
 returns : tie.Need-returns
 returns c =
     let a = c .before .before .before .args in
-    let b = a .base .0 in
+    let b = a .base in
     let s = a .window .now in
-    let b2 = a .base2 .0 in
+    let b2 = a .base2 in
     let t = a .window2 .now in
     (windows-exactly (lent b s b2 t) _ (rw (first-length s t b b2, second-length s t b b2) (c .try-windows .ensures)), (refl, refl))
 

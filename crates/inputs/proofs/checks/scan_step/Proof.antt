@@ -24,7 +24,7 @@ returns : tie.Need-returns
 unfolding stepVerdict
 returns c =
     let a = c .before .before .before .before .before .before .before .args in
-    let m = lent (a .base .0) (a .window .now) (a .base2 .0) (a .window2 .now) in
+    let m = lent (a .base) (a .window .now) (a .base2) (a .window2 .now) in
     let e : Refused (c .before .r .given .0 .0) ≡ stepVerdict m (a .image .now) (a .pc) = rw (← c .before .before .before .check-windows .ensures .0 .0, c .before .r .given .1) in
     let x = step-exactly m (a .image .now) (a .pc) _ e in
     ((x .0, x .1, refl), (refl, refl, refl))
@@ -33,7 +33,7 @@ returns-2 : tie.Need-returns-2
 unfolding stepVerdict
 returns-2 c =
     let a = c .before .before .before .before .before .before .before .args in
-    let m = lent (a .base .0) (a .window .now) (a .base2 .0) (a .window2 .now) in
+    let m = lent (a .base) (a .window .now) (a .base2) (a .window2 .now) in
     let e : c .try-code .result .verdict ≡ stepVerdict m (a .image .now) (a .pc) = rw (← c .before .before .before .check-windows .ensures .0 .0, c .before .enum-told .given .1) (c .try-code .ensures .0) in
     let x = step-exactly m (a .image .now) (a .pc) _ e in
     ((x .0, x .1, c .try-code .ensures .1), (refl, refl, refl))

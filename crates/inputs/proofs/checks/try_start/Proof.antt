@@ -13,7 +13,7 @@ use Rattle.inputs.proofs.checks.try_start.Tie as tie
 try-lists-requires : tie.Need-try-lists-requires
 try-lists-requires c κs =
     let a = c .before .before .before .before .before .before .args in
-    let m = lent (a .base .0) (a .window .now) (a .base2 .0) (a .window2 .now) in
+    let m = lent (a .base) (a .window .now) (a .base2) (a .window2 .now) in
     let s : StepSays m (a .image .now) (a .pc) Accepted = rw (c .enum-told .given .1) at (c .before .before .try-step .ensures .0 .1 .says) in
     windows-small _ (s .windows)
 
@@ -21,7 +21,7 @@ returns : tie.Need-returns
 unfolding startVerdict
 returns c =
     let a = c .before .before .before .before .before .before .before .args in
-    let m = lent (a .base .0) (a .window .now) (a .base2 .0) (a .window2 .now) in
+    let m = lent (a .base) (a .window .now) (a .base2) (a .window2 .now) in
     let e : Refused (c .before .r .given .0 .0) ≡ startVerdict m (a .image .now) (a .pc) (a .fcx) (a .pcxi) = rw (← c .before .before .before .try-step .ensures .0 .0, c .before .r .given .1) in
     (start-exactly m (a .image .now) (a .pc) (a .fcx) (a .pcxi) _ e, (refl, refl, refl))
 
@@ -29,7 +29,7 @@ returns-2 : tie.Need-returns-2
 unfolding startVerdict
 returns-2 c =
     let a = c .before .before .before .before .before .before .before .args in
-    let m = lent (a .base .0) (a .window .now) (a .base2 .0) (a .window2 .now) in
+    let m = lent (a .base) (a .window .now) (a .base2) (a .window2 .now) in
     let e : c .try-lists .result ≡ startVerdict m (a .image .now) (a .pc) (a .fcx) (a .pcxi) = rw (← c .before .before .before .try-step .ensures .0 .0, c .before .enum-told .given .1) (c .try-lists .ensures) in
     (start-exactly m (a .image .now) (a .pc) (a .fcx) (a .pcxi) _ e, (refl, refl, refl))
 
