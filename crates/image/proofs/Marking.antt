@@ -2,18 +2,19 @@
 -- Assumes nothing.
 use Prim.Native.Nat.{ℕ, zero, suc, _+_, _-_, _*_, _/_, _%_, _^_, _≤_, _<_}
 use native.Mathlib.Decide.{ℕ-discrete}
+use native.Mathlib.Numerals.{add-one}
 use native.Mathlib.Omega.{arith}
 use mathlib.Core.Path.{_≡_, refl, sym, subst, _∙_}
 use mathlib.Core.Bool.{Bool, true, false, cond, _&&_}
 use mathlib.Core.List.{List}
 use lib.ListN.{length, getD, set, length-set, replicate, length-replicate, getD-replicate, List·getD-eq-default}
 use lib.Dec.{eqb}
-use borrow.Author.Tests.{le-leb, lt-leb, eq-eqb, ne-eqb}
+use borrow.Author.Tests.{lt-ltb, le-ltb, le-leb, lt-leb, eq-eqb, ne-eqb}
 use lib.Seq.{getD-set-same, getD-set-other}
 use Rattle.image.specs.Lengths.{addressAfter}
 use Rattle.image.specs.Table.{entriesOf, entryAt}
 use Rattle.image.specs.Rest.{rest, bodyWalk, restIn, recordAddress, Begins}
-use Rattle.image.specs.Marks.{markEntry, markIndex, markAddress, slotOf, biasOf, start, markedStart, MarkHolds, MarksHold, Marked}
+use Rattle.image.specs.Marks.{markEntry, markIndex, markAddress, slotOf, biasOf, shiftFrom, markOf, putMark, bodyMarks, imageMarks, start, markedStart, MarkHolds, MarksHold, Marked}
 use Rattle.image.specs.Rules.{ImageRight}
 use Rattle.image.specs.declared.table.Entry.{Entry}
 use Rattle.image.proofs.Addresses.{after-none, after-rest, after-low, after-high}
@@ -39,6 +40,51 @@ put-holds img marks s m h n = record { each = λ t l. go t (rw (length-set marks
 
 pub put-marked : (img marks : List ℕ) (s m : ℕ) → Marked img marks → MarkHolds img m → Marked img (set marks s m)
 put-marked img marks s m h n = record { marks-hold = put-holds img marks s m (h .marks-hold) n; size = length-set marks s m ∙ h .size }
+
+-- ---- which records are marked: the loops' turns
+module _ (marks : List ℕ) (slot i k address : ℕ) where
+  pub put-here : slot < 4096 → (markEntry (getD marks slot 0) ≡ i + 1 → ⊥) → set marks slot (markOf i k address) ≡ putMark marks slot i k address
+  unfolding putMark
+  put-here h d = rw (lt-ltb _ _ h, ne-eqb _ _ d)
+
+  pub put-had : slot < 4096 → markEntry (getD marks slot 0) ≡ i + 1 → marks ≡ putMark marks slot i k address
+  unfolding putMark
+  put-had h e = rw (lt-ltb _ _ h, eq-eqb _ _ e)
+
+  pub put-beyond : 4096 ≤ slot → marks ≡ putMark marks slot i k address
+  unfolding putMark
+  put-beyond h = rw (le-ltb _ _ h)
+
+module _ (img : List ℕ) (shift : ℕ) (marks : List ℕ) where
+  pub body-none : (i : ℕ) → marks ≡ bodyMarks 0 img shift i marks
+  unfolding bodyMarks
+  body-none i = refl
+
+  pub body-more : (i : ℕ) (e : Entry) → e ≡ entryAt img i → (k here slot : ℕ) → here ≡ addressAfter k img (e .offset) (e .load) → slot ≡ slotOf (biasOf e) (i + 1) shift here → (now after : List ℕ) → now ≡ bodyMarks k img shift i marks → after ≡ putMark now slot i k here → after ≡ bodyMarks (k + 1) img shift i marks
+  unfolding bodyMarks
+  body-more i e is k here slot h p now after n a = rw (add-one k, ← is, ← h, ← p, ← n) a
+
+  pub image-none : marks ≡ imageMarks 0 img shift marks
+  unfolding imageMarks
+  image-none = refl
+
+  pub image-more : (i : ℕ) (now after : List ℕ) → now ≡ imageMarks i img shift marks → after ≡ bodyMarks (entryAt img i .records) img shift i now → after ≡ imageMarks (i + 1) img shift marks
+  unfolding imageMarks
+  image-more i now after n a = rw (add-one i, ← n) a
+
+-- the shift found, or one more
+module _ (n shift bytes : ℕ) where
+  pub shift-found : bytes / 2 / 2 ^ shift < 4080 → shift ≡ shiftFrom (suc n) shift bytes
+  unfolding shiftFrom
+  shift-found h = rw (lt-ltb _ _ h)
+
+  pub shift-more : 4080 ≤ bytes / 2 / 2 ^ shift → shiftFrom n (shift + 1) bytes ≡ shiftFrom (suc n) shift bytes
+  unfolding shiftFrom
+  shift-more h = rw (le-ltb _ _ h)
+
+pub shift-end : (shift bytes : ℕ) → shift ≡ shiftFrom 0 shift bytes
+unfolding shiftFrom
+shift-end shift bytes = refl
 
 -- a record of a body, by its index
 pub begins-there : (img : List ℕ) (i : ℕ) → i < entriesOf img → (e : Entry) → e ≡ entryAt img i → (k a : ℕ) → k < e .records → a ≡ addressAfter k img (e .offset) (e .load) → Begins img a i k

@@ -1,14 +1,14 @@
 -- What is looked up of an image beforehand, so that a fetch need not walk a whole body: whether it has short forms, and marks. The fetch's definition knows none of it.
-use Prim.Native.Nat.{ℕ, zero, suc, _+_, _/_, _%_, _^_, _<_}
+use Prim.Native.Nat.{ℕ, zero, suc, _+_, _*_, _/_, _%_, _^_, _<_}
 use mathlib.Core.Path.{_≡_}
 use mathlib.Core.Bool.{Bool, true, false, cond, not, _&&_}
 use mathlib.Core.List.{List}
-use lib.ListN.{length, getD}
-use lib.Dec.{leb, eqb}
+use lib.ListN.{length, getD, set}
+use lib.Dec.{ltb, leb, eqb}
 use Rattle.operations.specs.Forms.{isShort}
-use Rattle.image.specs.Table.{bodiesOf}
+use Rattle.image.specs.Table.{bodiesOf, entryAt}
 use Rattle.image.specs.Records.{totalOf}
-use Rattle.image.specs.Rest.{farOf, Begins}
+use Rattle.image.specs.Rest.{farOf, recordAddress, Begins}
 use Rattle.image.specs.declared.table.Entry.{Entry}
 use Rattle.image.specs.declared.fetch.Start.{Start}
 use Rattle.image.specs.declared.marks.Guide.{Guide}
@@ -48,6 +48,35 @@ slotOf bias entry shift pc = (pc + bias) % 2 ^ 32 / 2 ^ (shift % 32) + entry
 abbrev pub biasOf : Entry → ℕ
 biasOf e = farOf (e .load) (e .offset / 2)
 
+-- the least shift from `shift` on with which marks for so many bytes of an image stand in 4,096 places, a place more for each entry; n are tried
+unfoldable pub shiftFrom : ℕ → ℕ → ℕ → ℕ
+shiftFrom zero shift bytes = shift
+shiftFrom (suc n) shift bytes = cond (ltb (bytes / 2 / 2 ^ shift) 4080) shift (shiftFrom n (shift + 1) bytes)
+
+abbrev pub shiftOf : ℕ → ℕ
+shiftOf bytes = shiftFrom 30 1 bytes
+
+-- the mark of the record with index k of the body of entry i, both from 0, that begins at an address
+abbrev pub markOf : ℕ → ℕ → ℕ → ℕ
+markOf i k address = address * 2 ^ 32 + (i + 1) * 2 ^ 16 + k
+
+-- it is put in a place that has no mark of this body: of the records with one place the first is marked
+unfoldable pub putMark : List ℕ → ℕ → ℕ → ℕ → ℕ → List ℕ
+putMark marks slot i k address =
+    cond (ltb slot 4096 && not (eqb (markEntry (getD marks slot 0)) (i + 1))) (set marks slot (markOf i k address)) marks
+
+-- marks of the first k records of the body of entry i
+unfoldable pub bodyMarks : ℕ → List ℕ → ℕ → ℕ → List ℕ → List ℕ
+bodyMarks zero img shift i marks = marks
+bodyMarks (suc k) img shift i marks =
+    let address = recordAddress img i k in
+    putMark (bodyMarks k img shift i marks) (slotOf (biasOf (entryAt img i)) (i + 1) shift address) i k address
+
+-- marks of the first n bodies
+unfoldable pub imageMarks : ℕ → List ℕ → ℕ → List ℕ → List ℕ
+imageMarks zero img shift marks = marks
+imageMarks (suc i) img shift marks = bodyMarks (entryAt img i .records) img shift i (imageMarks i img shift marks)
+
 abbrev pub start : ℕ → ℕ → Start
 start k address = record { index = k; address = address }
 
@@ -57,7 +86,7 @@ markedStart marks shift i e pc =
     let m = getD marks (slotOf (biasOf e) (i + 1) shift pc) 0 in
     cond (eqb (markEntry m) (i + 1) && leb (markAddress m) pc) (start (markIndex m) (markAddress m)) (start 0 (e .load))
 
--- what it says is so; entry 0 says nothing
+-- what a mark says is so; entry 0 says nothing
 abbrev pub MarkHolds : List ℕ → ℕ → Type 0
 MarkHolds img m = (i : ℕ) → markEntry m ≡ i + 1 → Begins img (markAddress m) i (markIndex m)
 

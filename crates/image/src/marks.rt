@@ -1,4 +1,4 @@
-// What a run looks up beforehand, so that a fetch need not walk a whole body: whether the image has no short form, and marks of records with their addresses. A mark that is missing costs a walk and nothing else; what is promised of one is that it is so.
+// What a run looks up beforehand, so that a fetch need not walk a whole body: whether the image has no short form, and marks of records with their addresses. A mark that is missing costs a walk and nothing else: no answer of a step or a run depends on one.
 
 use crate::lengths::length_of;
 use crate::table::Entry;
@@ -6,10 +6,11 @@ use crate::table::read_entry;
 use memory::word_at;
 ghost use mathlib.Core.Path.{_≡_};
 ghost use Prim.Native.Nat.{_+_, _<_};
+ghost use lib.ListN.{length};
 ghost use Rattle.image.specs.Table.{entriesOf, entryAt};
 ghost use Rattle.image.specs.Records.{ImageHolds};
 ghost use Rattle.image.specs.Rest.{Begins};
-ghost use Rattle.image.specs.Marks.{markEntry, markIndex, markAddress, slotOf, biasOf, Marked};
+ghost use Rattle.image.specs.Marks.{markEntry, markIndex, markAddress, slotOf, biasOf, shiftOf, markOf, putMark, bodyMarks, imageMarks, Marked};
 
 // Whether an image has no short form; and the logarithm of how many addresses share a mark.
 pub struct Guide {
@@ -20,7 +21,7 @@ pub struct Guide {
 // The mark of the record with index k of the body of entry i, both from 0, that begins at an address.
 fn mark(i: u32, k: u32, address: u32) -> u64
     requires { ⌜ (i < 16) × (k < 0x1_0000) ⌝ }
-    ensures { λ r. ⌜ (markEntry r ≡ i + 1) × (markIndex r ≡ k) × (markAddress r ≡ address) ⌝ }
+    ensures { λ r. ⌜ (markEntry r ≡ i + 1) × (markIndex r ≡ k) × (markAddress r ≡ address) × (r ≡ markOf i k address) ⌝ }
 {
     address as u64 * 0x1_0000_0000 + (i + 1) as u64 * 0x1_0000 + k as u64
 }
@@ -59,7 +60,9 @@ pub fn slot_of(bias: u32, entry: u32, shift: u32, pc: u32) -> usize
 }
 
 // The least shift with which marks for so many bytes of an image stand in 4,096 places.
-fn shift_for(bytes: usize) -> u32 {
+fn shift_for(bytes: usize) -> u32
+    ensures { λ r. ⌜ r ≡ shiftOf bytes ⌝ }
+{
     let mut shift: u32 = 1;
     while shift < 31 {
         if (bytes / 2) >> shift < 4080 {
@@ -74,6 +77,7 @@ fn shift_for(bytes: usize) -> u32 {
 fn put_mark(image: &[u8], marks: &mut [u64; 4096], slot: usize, i: u32, k: u32, address: u32)
     requires { ⌜ ImageHolds (now image) × Begins (now image) address i k × Marked (now image) (now marks) ⌝ }
     ensures { λ _. ⌜ Marked (now (image .entry)) (now (marks .exit)) ⌝ }
+    ensures { λ _. ⌜ now (marks .exit) ≡ putMark (now (marks .entry)) slot i k address ⌝ }
 {
     if slot < 4096 {
         if mark_entry(marks[slot]) != i + 1 {
@@ -86,6 +90,7 @@ fn put_mark(image: &[u8], marks: &mut [u64; 4096], slot: usize, i: u32, k: u32, 
 fn mark_body(image: &[u8], marks: &mut [u64; 4096], shift: u32, i: u32)
     requires { ⌜ ImageHolds (now image) × (i < entriesOf (now image)) × Marked (now image) (now marks) ⌝ }
     ensures { λ _. ⌜ Marked (now (image .entry)) (now (marks .exit)) ⌝ }
+    ensures { λ _. ⌜ now (marks .exit) ≡ bodyMarks (entryAt (now (image .entry)) i .records) (now (image .entry)) shift i (now (marks .entry)) ⌝ }
 {
     let e = read_entry(image, i as usize);
     let at = e.offset as usize;
@@ -103,6 +108,7 @@ fn mark_body(image: &[u8], marks: &mut [u64; 4096], shift: u32, i: u32)
 pub fn mark_image(image: &[u8], marks: &mut [u64; 4096]) -> u32
     requires { ⌜ ImageHolds (now image) × Marked (now image) (now marks) ⌝ }
     ensures { λ _. ⌜ Marked (now (image .entry)) (now (marks .exit)) ⌝ }
+    ensures { λ r. ⌜ (r ≡ shiftOf (length (now (image .entry)))) × (now (marks .exit) ≡ imageMarks (entriesOf (now (image .entry))) (now (image .entry)) r (now (marks .entry))) ⌝ }
 {
     let n = word_at(image, 0);
     let shift = shift_for(image.len());

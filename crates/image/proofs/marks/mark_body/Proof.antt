@@ -4,15 +4,15 @@ use native.Mathlib.Omega.{arith}
 use Prim.Native.Nat.{_+_, _-_, _≤_}
 use mathlib.Core.Path.{_≡_, sym, _∙_}
 use Rattle.image.specs.Lengths.{addressAfter}
-use Rattle.image.specs.Marks.{Marked}
+use Rattle.image.specs.Marks.{bodyMarks, Marked}
 use Rattle.image.proofs.Addresses.{after-none, after-plus, after-less}
 use Rattle.image.proofs.Images.{image-right}
-use Rattle.image.proofs.Marking.{whole, begins-there}
+use Rattle.image.proofs.Marking.{body-none, body-more, whole, begins-there}
 use Rattle.image.proofs.marks.mark_body.Statement.{statement}
 use Rattle.image.proofs.marks.mark_body.Tie as tie
 
 abbrev Inv-loop : tie.InvT-loop
-Inv-loop image marks₀ shift i e at bias here₀ k₀ marks here k = (k ≤ e .records) × (here ≡ addressAfter k image (e .offset) (e .load)) × Marked image marks
+Inv-loop image marks₀ shift i e at bias here₀ k₀ marks here k = (k ≤ e .records) × (here ≡ addressAfter k image (e .offset) (e .load)) × Marked image marks × (marks ≡ bodyMarks k image shift i marks₀)
 
 abbrev μ-loop : tie.MeasureT-loop
 μ-loop image marks₀ shift i e at bias here₀ k₀ marks here k = e .records - k
@@ -27,7 +27,7 @@ bias-of-requires : tie.Need-bias-of-requires Inv-loop μ-loop
 bias-of-requires c κs = search needs
 
 loop-holds : tie.Need-loop-holds Inv-loop μ-loop
-loop-holds c = (omega arith, sym (after-none _ _ _), c .before .before .before .before .pre .2)
+loop-holds c = (omega arith, sym (after-none _ _ _), c .before .before .before .before .pre .2, body-none _ _ _ _)
 
 add-slot-of : tie.Need-add-slot-of Inv-loop μ-loop
 add-slot-of c =
@@ -83,10 +83,13 @@ loop-less : tie.Need-loop-less Inv-loop μ-loop
 loop-less c = omega (arith, c .before .before .before .before .before .if1 .taken)
 
 loop-again : tie.Need-loop-again Inv-loop μ-loop
-loop-again c = (omega (arith, c .before .before .before .before .before .if1 .taken), rw (c .before .before .before .before .before .before .before .loop .inv .1, c .length-of .ensures) (sym (after-plus _ _ _ _)), c .before .before .put-mark .ensures)
+loop-again c = (omega (arith, c .before .before .before .before .before .if1 .taken), rw (c .before .before .before .before .before .before .before .loop .inv .1, c .length-of .ensures) (sym (after-plus _ _ _ _)), c .before .before .put-mark .ensures .0, body-more _ _ _ _ (c .before .before .before .before .before .before .before .before .before .before .read-entry .result) (c .before .before .before .before .before .before .before .before .before .before .read-entry .ensures) _ _ _ (c .before .before .before .before .before .before .before .loop .inv .1) (rw (c .before .before .before .before .before .before .before .before .bias-of .ensures) at (c .before .before .before .slot-of .ensures)) _ _ (c .before .before .before .before .before .before .before .loop .inv .3) (c .before .before .put-mark .ensures .1))
 
 returns : tie.Need-returns Inv-loop μ-loop
-returns c = c .before .before .loop .inv .2
+returns c =
+    let l = c .before .before .loop in
+    let z : l .k ≡ c .before .before .before .before .before .read-entry .result .records = omega (arith, l .inv .0, c .if1 .left) in
+    (l .inv .2, l .inv .3 ∙ rw (z, c .before .before .before .before .before .read-entry .ensures))
 
 pub mark-body-spec : {M : Type 1} → statement M
 mark-body-spec =
