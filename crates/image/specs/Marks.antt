@@ -60,7 +60,7 @@ shiftOf bytes = shiftFrom 30 1 bytes
 abbrev pub markOf : ℕ → ℕ → ℕ → ℕ
 markOf i k address = address * 2 ^ 32 + (i + 1) * 2 ^ 16 + k
 
--- it stands in a place that has no mark of this body: of the records with one place the first is marked
+-- it is put in a place that has no mark of this body: of the records with one place the first is marked
 unfoldable pub putMark : List ℕ → ℕ → ℕ → ℕ → ℕ → List ℕ
 putMark marks slot i k address =
     cond (ltb slot 4096 && not (eqb (markEntry (getD marks slot 0)) (i + 1))) (set marks slot (markOf i k address)) marks
@@ -86,7 +86,7 @@ markedStart marks shift i e pc =
     let m = getD marks (slotOf (biasOf e) (i + 1) shift pc) 0 in
     cond (eqb (markEntry m) (i + 1) && leb (markAddress m) pc) (start (markIndex m) (markAddress m)) (start 0 (e .load))
 
--- what it says is so; entry 0 says nothing
+-- what a mark says is so; entry 0 says nothing
 abbrev pub MarkHolds : List ℕ → ℕ → Type 0
 MarkHolds img m = (i : ℕ) → markEntry m ≡ i + 1 → Begins img (markAddress m) i (markIndex m)
 

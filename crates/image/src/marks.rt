@@ -1,4 +1,4 @@
-// What a run looks up beforehand, so that a fetch need not walk a whole body: whether the image has no short form, and marks of records with their addresses. A mark that is missing costs a walk and nothing else; what is promised of one is that it is so.
+// What a run looks up beforehand, so that a fetch need not walk a whole body: whether the image has no short form, and marks of records with their addresses. A mark that is missing costs a walk and nothing else: no answer of a step or a run depends on one.
 
 use crate::lengths::length_of;
 use crate::table::Entry;

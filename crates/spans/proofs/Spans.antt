@@ -41,8 +41,8 @@ use Rattle.image.specs.Fetch.{nextAfter, instructionAt, fetchOf}
 use Rattle.image.specs.declared.fetch.Fetched.the-variants.{Nothing}
 use Rattle.image.specs.declared.fetch.Rest.{Rest}
 use Rattle.image.specs.declared.fetch.InBody.{InBody}
-use Rattle.image.proofs.Addresses.{after-low, after-high, after-less, after-join, after-plus}
-use Rattle.image.proofs.Walks.{Walked, nowhere, somewhere, walked, walk-before, turn-found, turn-on, turn-end}
+use Rattle.image.proofs.Addresses.{after-low, after-high, after-rest, after-less, after-join, after-plus}
+use Rattle.image.proofs.Walks.{Walked, nowhere, somewhere, walked, walk-at, walk-before, turn-on, turn-end}
 use Rattle.image.proofs.Rests.{rest-of, entry-begins}
 use Rattle.image.proofs.Fetches.{rest-bounds, rest-long, next, fetch-next}
 use Rattle.acts.specs.declared.Control.{Control}
@@ -51,7 +51,7 @@ use Rattle.execute.specs.Execute.{executeOf}
 use Rattle.decisions.specs.Beginning as beginning
 use Rattle.decisions.specs.Beginning.{checkBegins, fetchingAt}
 use Rattle.decisions.proofs.Beginnings.{fetchedStep, executes}
-use Rattle.spans.specs.Spans.{recordsBelow, fetchableBy, fetchableOf, foundOf, spanOf, begin, LiesInBody, Lies, SpanHolds, indexOn, namesIn, markedIndex, IndexIn, Current, placeOf, PlaceIn}
+use Rattle.spans.specs.Spans.{recordsBelow, fetchableBy, fetchableOf, foundOf, spanOf, begin, LiesInBody, Lies, SpanHolds, indexOn, IndexTells, namesIn, markedIndex, IndexIn, Current, placeOf, PlaceIn}
 use Rattle.spans.specs.declared.Span.{Span}
 
 -- ---- of the records from pc on, those that protection lets be fetched
@@ -230,15 +230,15 @@ module _ (img : List ℕ) (s : Span) where
     unfolding indexOn
     index-past h = rw (walk-before (s .records - j) img (s .at + 8 * j) (begin img s j) pc h) (omega arith)
 
-    index-found : j < s .records → begin img s j ≡ pc → j ≡ indexOn img s j pc
+    index-own : (i : ℕ) → j ≤ i → i < s .records → pc ≡ begin img s i → indexOn img s j pc ≡ i
     unfolding indexOn
-    index-found h e = rw (← turn-found (s .records) img (s .at) (begin img s j) pc j h e) (omega arith)
+    index-own i l h e = rw (walk-at (i - j) (s .records - j) img (s .at + 8 * j) (begin img s j) pc (omega arith) (after-rest j i img (s .at) (s .from) l ∙ sym e)) (omega arith)
 
     pub index-here : j ≤ s .records → begin img s j ≡ pc → j ≡ indexOn img s j pc
     index-here h e = by (lt-or-ge j (s .records))
       where
         by : (j < s .records) ⊎ (s .records ≤ j) → j ≡ indexOn img s j pc
-        by (inl l) = index-found l e
+        by (inl l) = sym (index-own j (omega arith) l (sym e))
         by (inr l) = let z : j ≡ s .records = omega arith in z ∙ index-end l
 
     pub index-up : j < s .records → (begin img s j ≡ pc → ⊥) → indexOn img s (j + 1) pc ≡ indexOn img s j pc
@@ -246,7 +246,7 @@ module _ (img : List ℕ) (s : Span) where
     index-up h d = rw (after-plus j img (s .at) (s .from), turn-on (s .records) img (s .at) (begin img s j) pc j h d)
 
     -- an index that the walk finds is that of the record that begins at pc
-    pub index-in : j ≤ s .records → IndexIn img s pc (indexOn img s j pc)
+    index-in : j ≤ s .records → IndexIn img s pc (indexOn img s j pc)
     unfolding indexOn
     index-in h = by (bodyWalk (s .records - j) img (s .at + 8 * j) (begin img s j) pc) (walked (s .records - j) img (s .at + 8 * j) (begin img s j) pc)
       where
@@ -255,6 +255,9 @@ module _ (img : List ℕ) (s : Span) where
         by _ (somewhere i k e) l =
             let z : s .records - (s .records - j - i) ≡ j + i = omega arith in
             rw (z, after-join j i img (s .at) (s .from)) (sym e)
+
+    pub index-tells : j ≤ s .records → (r : ℕ) → r ≡ indexOn img s j pc → (r ≡ indexOn img s j pc) × IndexTells img s j pc r
+    index-tells h r e = (e, record { begins = rw e (index-in h); only = λ i l k b. e ∙ index-own i l k b })
 
   -- the index by the mark in the place p for pc
   module _ (shift : ℕ) (marks : List ℕ) (pc p : ℕ) (is : p ≡ slotOf (s .bias) (s .entry) shift pc) where

@@ -94,6 +94,11 @@ pub record Placed (img : List ℕ) (long : Bool) (s : Span) (k here : ℕ) : Typ
 unfoldable pub indexOn : List ℕ → Span → ℕ → ℕ → ℕ
 indexOn img s k pc = s .records - bodyWalk (s .records - k) img (s .at + 8 * k) (begin img s k) pc .records
 
+-- what it tells, in both directions: an index in the span is that of the record that begins at pc, and where one begins there, from the one with index k on, it is that one's
+pub record IndexTells (img : List ℕ) (s : Span) (k pc r : ℕ) : Type 0 where
+  pub begins : r < s .records → pc ≡ begin img s r
+  pub only : (j : ℕ) → k ≤ j → j < s .records → pc ≡ begin img s j → r ≡ j
+
 -- a mark names a record of the span
 abbrev pub namesIn : Span → ℕ → Bool
 namesIn s m = eqb (markEntry m) (s .entry) && (leb (s .first) (markIndex m) && ltb (markIndex m) (s .first + s .records))

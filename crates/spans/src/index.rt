@@ -10,12 +10,12 @@ use image::marks::slot_of;
 ghost use mathlib.Core.Path.{_≡_};
 ghost use mathlib.Core.Bool.{true, false};
 ghost use Rattle.image.specs.Marks.{MarksHold};
-ghost use Rattle.spans.specs.Spans.{Lies, Placed, indexOn, markedIndex, Current, placeOf, PlaceIn};
+ghost use Rattle.spans.specs.Spans.{Lies, Placed, indexOn, IndexTells, markedIndex, Current, placeOf, PlaceIn};
 
 // The index of the record that begins at pc, walked to from the one with index k, which begins at `here`: past the span where there is none.
 fn index_on(image: &[u8], long: bool, s: Span, k: u32, here: u32, pc: u32) -> u32
     requires { ⌜ Placed (now image) long s k here ⌝ }
-    ensures { λ r. ⌜ r ≡ indexOn (now (image .entry)) s k pc ⌝ }
+    ensures { λ r. ⌜ (r ≡ indexOn (now (image .entry)) s k pc) × IndexTells (now (image .entry)) s k pc r ⌝ }
 {
     let at = s.at;
     let mut j = k;

@@ -2,7 +2,9 @@
 use native.Mathlib.Omega.{arith}
 use Prim.Native.Nat.{_<_}
 use mathlib.Core.Path.{refl, sym, ap, subst, _∙_}
+use lib.ListN.{getD}
 use Rattle.protection.specs.Range.{rangesIn}
+use Rattle.spans.specs.Spans.{spanOf}
 use Rattle.image.specs.declared.fetch.InBody.{InBody}
 use Rattle.image.proofs.Images.{image-right}
 use Rattle.image.proofs.Fetches.{fetch-none}
@@ -58,7 +60,7 @@ returns-3 c =
     let m = subst (λ (x : InBody). 0 < x .rest .records) e n in
     let f = fetchable-says (a .core .now) (rangesIn (a .words .now)) _ _ m (sym h ∙ t) in
     let l = rw e at (c .before .fetchable .ensures) in
-    let s = rw l at (c .span-of .ensures) in
+    let s = c .span-of .ensures ∙ ap (spanOf (a .image .now) (a .guide .long) (getD (a .core .now) 0 0)) l in
     let y = stretches (a .image .now) (a .guide .long) _ _ g m in
     (s, rw s (y .from), rw s (rw (y .records) (f .some)), rw s (span-of _ _ (a .guide .long) _ g (p .1 .long-only) m f y))
 

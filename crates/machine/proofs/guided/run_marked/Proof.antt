@@ -11,10 +11,10 @@ mark-image-requires : tie.Need-mark-image-requires
 mark-image-requires c κs = (image-holds _ _ _ (c .before .before .before .before .pre .accepted), unmarked-array _)
 
 slice-aggregate-run-steps : tie.Need-slice-aggregate-run-steps
-slice-aggregate-run-steps c = sym (c .before .before .before .mark-image .ensures .size)
+slice-aggregate-run-steps c = sym (c .before .before .before .mark-image .ensures .0 .size)
 
 run-steps-requires : tie.Need-run-steps-requires
-run-steps-requires c κs = (c .before .before .before .before .before .before .before .before .before .before .before .before .pre, marked _ _ _ refl (c .before .before .before .before .before .before .before .mark-image .ensures .marks-hold))
+run-steps-requires c κs = (c .before .before .before .before .before .before .before .before .before .before .before .before .pre, marked _ _ _ refl (c .before .before .before .before .before .before .before .mark-image .ensures .0 .marks-hold))
 
 same-length : tie.Need-same-length
 same-length c = search needs

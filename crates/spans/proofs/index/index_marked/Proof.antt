@@ -49,7 +49,7 @@ index-on-requires c κs =
     }
 
 returns-4 : tie.Need-returns-4
-returns-4 c = let p = c .before .before .before .before .before .before .before .before .before .before .before .before .before .before .pre in c .index-on .ensures ∙ marked-inside _ _ _ _ _ _ (c .before .before .before .before .before .before .before .before .before .before .before .slot-of .ensures) _ (omega arith) (p .0 .body (p .1) .few) (p .0 .most) (c .before .before .before .before .wrapping-sub-u32 .ensures ∙ c .before .before .before .before .before .mark-index .ensures) (sym (c .before .before .before .before .before .before .before .before .mark-entry .ensures) ∙ c .before .before .before .before .before .before .if2 .left) (c .before .before .if3 .left)
+returns-4 c = let p = c .before .before .before .before .before .before .before .before .before .before .before .before .before .before .pre in c .index-on .ensures .0 ∙ marked-inside _ _ _ _ _ _ (c .before .before .before .before .before .before .before .before .before .before .before .slot-of .ensures) _ (omega arith) (p .0 .body (p .1) .few) (p .0 .most) (c .before .before .before .before .wrapping-sub-u32 .ensures ∙ c .before .before .before .before .before .mark-index .ensures) (sym (c .before .before .before .before .before .before .before .before .mark-entry .ensures) ∙ c .before .before .before .before .before .before .if2 .left) (c .before .before .if3 .left)
 
 pub index-marked-spec : {M : Type 1} → statement M
 index-marked-spec =

@@ -6,7 +6,7 @@ use mathlib.Core.Path.{_≡_, refl, sym, _∙_}
 use lib.ListN.{getD}
 use Rattle.image.proofs.Addresses.{length-says}
 use Rattle.spans.specs.Spans.{indexOn}
-use Rattle.spans.proofs.Spans.{Here, here-below, here-up, index-end, index-past, index-here, index-up}
+use Rattle.spans.proofs.Spans.{Here, here-below, here-up, index-end, index-past, index-here, index-up, index-tells}
 use Rattle.spans.proofs.index.index_on.Statement.{statement}
 use Rattle.spans.proofs.index.index_on.Tie as tie
 
@@ -20,7 +20,7 @@ loop-holds : tie.Need-loop-holds Inv-loop μ-loop
 loop-holds c = (record { within = omega (arith, c .before .pre .inside); at = c .before .pre .at }, refl)
 
 returns : tie.Need-returns Inv-loop μ-loop
-returns c = index-end _ _ _ _ (omega (arith, c .if1 .taken)) ∙ c .before .before .before .loop .inv .1
+returns c = index-tells _ _ _ _ (omega (arith, c .before .before .before .before .before .pre .inside)) _ (index-end _ _ _ _ (omega (arith, c .if1 .taken)) ∙ c .before .before .before .loop .inv .1)
 
 cast-length-of : tie.Need-cast-length-of Inv-loop μ-loop
 cast-length-of c = search needs
@@ -61,10 +61,10 @@ loop-again c =
     (here-up (a .image .now) (a .s) (c .before .before .before .before .before .before .before .pre .lies) (l .j) (l .a) (c .length-of .result) (l .inv .0) n (c .length-of .ensures), index-up _ _ _ _ (omega (arith, l .inv .0 .within, n)) (λ e. omega (arith, l .inv .0 .at, c .before .before .before .before .loop-test .taken)) ∙ l .inv .1)
 
 returns-2 : tie.Need-returns-2 Inv-loop μ-loop
-returns-2 c = let l = c .before .before .loop .inv in index-here _ _ _ _ (l .0 .within) (sym (l .0 .at) ∙ c .if2 .taken) ∙ l .1
+returns-2 c = let l = c .before .before .loop .inv in index-tells _ _ _ _ (omega (arith, c .before .before .before .before .pre .inside)) _ (index-here _ _ _ _ (l .0 .within) (sym (l .0 .at) ∙ c .if2 .taken) ∙ l .1)
 
 returns-3 : tie.Need-returns-3 Inv-loop μ-loop
-returns-3 c = let l = c .before .before .loop .inv in index-past _ _ _ _ (omega (arith, l .0 .at, c .before .loop-test .left, c .if2 .left)) ∙ l .1
+returns-3 c = let l = c .before .before .loop .inv in index-tells _ _ _ _ (omega (arith, c .before .before .before .before .pre .inside)) _ (index-past _ _ _ _ (omega (arith, l .0 .at, c .before .loop-test .left, c .if2 .left)) ∙ l .1)
 
 pub index-on-spec : {M : Type 1} → statement M
 index-on-spec =
