@@ -4,10 +4,10 @@ use answers::outcome_answer;
 use answers::permits;
 use answers::verdict_answer;
 use answers::wrong_length;
-use areas::link::Address;
 use machine::answer::Outcome;
 use machine::steps::run;
 use machine::steps::step;
+use memory::address::as_address;
 use records::read_ranges;
 use records::read_registers;
 use records::read_requests;
@@ -16,6 +16,7 @@ use registers::Registers;
 use series::start;
 ghost use mathlib.Core.Path.{_≡_};
 ghost use lib.ListN.{length};
+ghost use Rattle.memory.specs.Address.{asAddress};
 ghost use Rattle.memory.specs.Memory.{lent};
 ghost use Rattle.deqbaryn.specs.Host.{version, startAnswer, StartTells, stepStored, runStored, called, stepCall, StepTells, StepHolds, runCall, RunTells, RunHolds, UnmadeKeeps};
 ghost use Rattle.deqbaryn.specs.Calls.{AcceptedFollows};
@@ -38,16 +39,18 @@ pub extern "C" fn deqbaryn_start<'a>(
     window2: &'a [u8],
     image: &[u8],
 ) -> u64
-    ensures { λ r. ⌜ r ≡ startAnswer (now (core .entry)) (lent base (now (window .entry)) base2 (now (window2 .entry))) (now (image .entry)) ⌝ }
-    ensures { λ r. ⌜ StartTells (now (core .entry)) (lent base (now (window .entry)) base2 (now (window2 .entry))) (now (image .entry)) r ⌝ }
-    ensures { λ r. ⌜ AcceptedFollows (now (core .entry)) (lent base (now (window .entry)) base2 (now (window2 .entry))) r ⌝ }
+    ensures { λ r. ⌜ r ≡ startAnswer (now (core .entry)) (lent (asAddress base) (now (window .entry)) (asAddress base2) (now (window2 .entry))) (now (image .entry)) ⌝ }
+    ensures { λ r. ⌜ StartTells (now (core .entry)) (lent (asAddress base) (now (window .entry)) (asAddress base2) (now (window2 .entry))) (now (image .entry)) r ⌝ }
+    ensures { λ r. ⌜ AcceptedFollows (now (core .entry)) (lent (asAddress base) (now (window .entry)) (asAddress base2) (now (window2 .entry))) r ⌝ }
     ensures unchanged { λ _. ⌜ (now (core .exit) ≡ now (core .entry)) × (now (window .exit) ≡ now (window .entry)) × (now (window2 .exit) ≡ now (window2 .entry)) × (now (image .exit) ≡ now (image .entry)) ⌝ }
 {
     if core.len() != 616 {
         return wrong_length();
     }
     let r = read_registers(core);
-    verdict_answer(start(Address(base), window, Address(base2), window2, image, r))
+    let first = as_address(base);
+    let second = as_address(base2);
+    verdict_answer(start(first, window, second, window2, image, r))
 }
 
 // A refused or stopped step leaves the record as it was.
@@ -83,9 +86,9 @@ pub extern "C" fn deqbaryn_step(
     window2: &mut [u8],
     image: &[u8],
 ) -> u64
-    ensures { λ r. ⌜ called r (now (core .exit)) (lent base (now (window .exit)) base2 (now (window2 .exit))) ≡ stepCall (now (core .entry)) (lent base (now (window .entry)) base2 (now (window2 .entry))) (now (image .entry)) ⌝ }
-    ensures { λ _. ⌜ StepTells (now (core .entry)) (lent base (now (window .entry)) base2 (now (window2 .entry))) (now (image .entry)) ⌝ }
-    ensures { λ _. ⌜ StepHolds (now (core .entry)) (lent base (now (window .entry)) base2 (now (window2 .entry))) (now (image .entry)) (now (core .exit)) ⌝ }
+    ensures { λ r. ⌜ called r (now (core .exit)) (lent (asAddress base) (now (window .exit)) (asAddress base2) (now (window2 .exit))) ≡ stepCall (now (core .entry)) (lent (asAddress base) (now (window .entry)) (asAddress base2) (now (window2 .entry))) (now (image .entry)) ⌝ }
+    ensures { λ _. ⌜ StepTells (now (core .entry)) (lent (asAddress base) (now (window .entry)) (asAddress base2) (now (window2 .entry))) (now (image .entry)) ⌝ }
+    ensures { λ _. ⌜ StepHolds (now (core .entry)) (lent (asAddress base) (now (window .entry)) (asAddress base2) (now (window2 .entry))) (now (image .entry)) (now (core .exit)) ⌝ }
 {
     if core.len() != 616 {
         return wrong_length();
@@ -93,16 +96,9 @@ pub extern "C" fn deqbaryn_step(
     let r = read_registers(core);
     let xs = read_requests(core);
     let rs = read_ranges(core);
-    let s = step(
-        Address(base),
-        window,
-        Address(base2),
-        window2,
-        image,
-        r,
-        xs,
-        rs,
-    );
+    let first = as_address(base);
+    let second = as_address(base2);
+    let s = step(first, window, second, window2, image, r, xs, rs);
     let outcome = s.outcome;
     let after = s.registers;
     let requests = s.requests;
@@ -121,10 +117,10 @@ pub extern "C" fn deqbaryn_run(
     image: &[u8],
     n: u32,
 ) -> u64
-    ensures { λ r. ⌜ called r (now (core .exit)) (lent base (now (window .exit)) base2 (now (window2 .exit))) ≡ runCall n (now (core .entry)) (lent base (now (window .entry)) base2 (now (window2 .entry))) (now (image .entry)) ⌝ }
-    ensures { λ _. ⌜ RunTells n (now (core .entry)) (lent base (now (window .entry)) base2 (now (window2 .entry))) (now (image .entry)) ⌝ }
-    ensures { λ _. ⌜ RunHolds n (now (core .entry)) (lent base (now (window .entry)) base2 (now (window2 .entry))) (now (image .entry)) (now (core .exit)) ⌝ }
-    ensures { λ _. ⌜ UnmadeKeeps n (now (core .entry)) (lent base (now (window .entry)) base2 (now (window2 .entry))) (now (image .entry)) (now (core .exit)) (lent base (now (window .exit)) base2 (now (window2 .exit))) ⌝ }
+    ensures { λ r. ⌜ called r (now (core .exit)) (lent (asAddress base) (now (window .exit)) (asAddress base2) (now (window2 .exit))) ≡ runCall n (now (core .entry)) (lent (asAddress base) (now (window .entry)) (asAddress base2) (now (window2 .entry))) (now (image .entry)) ⌝ }
+    ensures { λ _. ⌜ RunTells n (now (core .entry)) (lent (asAddress base) (now (window .entry)) (asAddress base2) (now (window2 .entry))) (now (image .entry)) ⌝ }
+    ensures { λ _. ⌜ RunHolds n (now (core .entry)) (lent (asAddress base) (now (window .entry)) (asAddress base2) (now (window2 .entry))) (now (image .entry)) (now (core .exit)) ⌝ }
+    ensures { λ _. ⌜ UnmadeKeeps n (now (core .entry)) (lent (asAddress base) (now (window .entry)) (asAddress base2) (now (window2 .entry))) (now (image .entry)) (now (core .exit)) (lent (asAddress base) (now (window .exit)) (asAddress base2) (now (window2 .exit))) ⌝ }
 {
     if core.len() != 616 {
         return wrong_length();
@@ -132,17 +128,9 @@ pub extern "C" fn deqbaryn_run(
     let r = read_registers(core);
     let xs = read_requests(core);
     let rs = read_ranges(core);
-    let v = run(
-        Address(base),
-        window,
-        Address(base2),
-        window2,
-        image,
-        r,
-        xs,
-        rs,
-        n,
-    );
+    let first = as_address(base);
+    let second = as_address(base2);
+    let v = run(first, window, second, window2, image, r, xs, rs, n);
     let outcome = v.outcome;
     let after = v.registers;
     let requests = v.requests;
