@@ -20,13 +20,14 @@ use Rattle.events.specs.declared.event.Ending.the-variants as ending
 use Rattle.protection.specs.declared.range.Range.{Range}
 use Rattle.interrupts.specs.Sources.{best, bestOf, takes, clearedAt}
 use Rattle.interrupts.specs.declared.Best.{Best}
-use Rattle.entries.specs.Entry.{MadeOf}
-use Rattle.decisions.specs.Phases.{interrupted, oneOf}
+use Rattle.entries.specs.Entry.{MadeOf, interruptOf}
+use Rattle.decisions.specs.Decision.{oneOf}
+use Rattle.decisions.proofs.Beginnings.{taken-one, taken-requests}
 use Rattle.machine.specs.Run.{RunOf, ran, runFrom}
 use Rattle.machine.specs.Inner.{foremostOf, Ready, leftBy, Paces}
 use Rattle.machine.specs.declared.answer.Outcome.the-variants.{Made, Stopped}
 use Rattle.machine.specs.declared.instructions.Paced.{Paced}
-use Rattle.machine.proofs.Turns.{ready-next, run-made, run-stopped, run-end, off, taken-one, taken-requests}
+use Rattle.machine.proofs.Turns.{ready-next, run-made, run-stopped, run-end, off}
 
 -- ---- the source that n steps begin with, by cases
 module _ (n icr : ℕ) (xs : List ℕ) where
@@ -100,18 +101,18 @@ module _ (n : ℕ) (img : List ℕ) (rs : List Range) (r₀ : Registers) (xs₀ 
     whole = subst (λ (l : ℕ). runFrom l img rs (Made last) (n - left) r xs m ≡ runFrom n img rs (Made event.Instruction) 0 r₀ xs₀ m₀) before (t .run)
 
     -- ---- an interrupt
-    module _ (p : takes (icr r) (best .level) ≡ true) {v : MadeOf} (is : v ≡ interrupted best r m) where
+    module _ (p : takes (icr r) (best .level) ≡ true) {v : MadeOf} (is : v ≡ interruptOf (best .source) (best .level) r m) where
       taken : takes (icr r) (bestOf xs .level) ≡ true
       taken = rw (← is-best p) p
 
       one : v ≡ oneOf img r xs rs m
-      one = is ∙ ap (λ (b : Best). interrupted b r m) (is-best p) ∙ taken-one img r xs rs m taken
+      one = is ∙ ap (λ (b : Best). interruptOf (b .source) (b .level) r m) (is-best p) ∙ taken-one img r rs m xs taken
 
       pub turn-interrupt : (e : Event) → v .ending ≡ ending.Made e → (ys : List ℕ) → ys ≡ clearedAt xs (best .source) → (best′ : Best) → best′ ≡ bestOf ys → Turn (left - 1) e (v .registers) ys (v .memory) best′
       turn-interrupt e f ys y best′ b =
           let l = t .most in
           let z : n - left + 1 ≡ n - (left - 1) = omega arith in
-          let q = y ∙ ap (λ (b : Best). clearedAt xs (b .source)) (is-best p) ∙ taken-requests img r xs rs m taken in
+          let q = y ∙ ap (λ (b : Best). clearedAt xs (b .source)) (is-best p) ∙ taken-requests img r rs m xs taken in
           record {
             ready = ready-next (t .ready) xs rs v one;
             best-is = inl b;

@@ -18,7 +18,7 @@ use Rattle.inputs.specs.declared.verdict.Verdict.the-variants.{Accepted, Refuse
 use Rattle.inputs.proofs.Verdicts.{step-exactly}
 use Rattle.events.specs.declared.event.Ending.{Ending}
 use Rattle.events.specs.declared.event.Ending.the-variants as ending
-use Rattle.decisions.specs.Phases.{oneOf}
+use Rattle.decisions.specs.Decision.{oneOf}
 use Rattle.permits.specs.Permits.{noPermits, permitsOf}
 use Rattle.permits.specs.declared.Permits.{Permits}
 use Rattle.machine.specs.Step.{outcomeOf, verdictIn, StepOf, stepped, acceptedBy, steppedBy, stepOf}
@@ -43,15 +43,15 @@ module _ (img : List ℕ) (r : Registers) (xs : List ℕ) (rs : List Range) (m :
   one-step = let s = stepOf img r xs rs m in onward-one (s .outcome) _ s refl
 
   -- made or stopped, it names them
-  accepted-permits : (p : Permits) (e : Ending) (q : Registers) (n : Memory) → acceptedBy r xs m p e q n .permits ≡ p
-  accepted-permits p (ending.Made e) q n = refl
-  accepted-permits p (ending.Stopped s) q n = refl
+  accepted-permits : (ys : List ℕ) (p : Permits) (e : Ending) (q : Registers) (n : Memory) → acceptedBy r xs m ys p e q n .permits ≡ p
+  accepted-permits ys p (ending.Made e) q n = refl
+  accepted-permits ys p (ending.Stopped s) q n = refl
 
   -- of an accepted machine: the run of one, and the ranges named
   pub accepted-one : stepVerdict m img (pc r) ≡ Accepted → {v : RunOf} → v ≡ runFrom 1 img rs (outcome.Made event.Instruction) 0 r xs m → {p : Permits} → p ≡ permitsOf img (r .a) (r .core) xs rs → strip p v ≡ stepOf img r xs rs m
   accepted-one e {v} is {p} named =
       let w = oneOf img r xs rs m in
-      let same : stepOf img r xs rs m .permits ≡ p = ap (λ (s : StepOf). s .permits) (accepted-step img r xs rs m e) ∙ accepted-permits _ (w .ending) (w .registers) (w .memory) ∙ sym named in
+      let same : stepOf img r xs rs m .permits ≡ p = ap (λ (s : StepOf). s .permits) (accepted-step img r xs rs m e) ∙ accepted-permits _ _ (w .ending) (w .registers) (w .memory) ∙ sym named in
       ap (λ (x : Permits). strip x v) (sym same) ∙ ap (strip (stepOf img r xs rs m .permits)) is ∙ one-step
 
   module _ (x : Refusal) (e : stepVerdict m img (pc r) ≡ Refused x) where
@@ -68,9 +68,9 @@ module _ (img : List ℕ) (r : Registers) (xs : List ℕ) (rs : List Range) (m :
   run-accepted n e = rw e
 
   -- what the outcome says of the rules
-  accepted-verdict : (p : Permits) (e : Ending) (q : Registers) (n : Memory) → verdictIn (acceptedBy r xs m p e q n .outcome) ≡ Accepted
-  accepted-verdict p (ending.Made e) q n = refl
-  accepted-verdict p (ending.Stopped s) q n = refl
+  accepted-verdict : (ys : List ℕ) (p : Permits) (e : Ending) (q : Registers) (n : Memory) → verdictIn (acceptedBy r xs m ys p e q n .outcome) ≡ Accepted
+  accepted-verdict ys p (ending.Made e) q n = refl
+  accepted-verdict ys p (ending.Stopped s) q n = refl
 
   step-verdict : verdictIn (stepOf img r xs rs m .outcome) ≡ stepVerdict m img (pc r)
   unfolding stepOf
@@ -78,7 +78,7 @@ module _ (img : List ℕ) (r : Registers) (xs : List ℕ) (rs : List Range) (m :
     where
       by : (v : Verdict) → verdictIn (steppedBy img r xs rs m v .outcome) ≡ v
       by (Refused x) = refl
-      by Accepted = let v = oneOf img r xs rs m in accepted-verdict _ (v .ending) (v .registers) (v .memory)
+      by Accepted = let v = oneOf img r xs rs m in accepted-verdict _ _ (v .ending) (v .registers) (v .memory)
 
   pub step-told : {o : Outcome} {q : Registers} {ys : List ℕ} {n : Memory} {p : Permits} → stepped o q ys n p ≡ stepOf img r xs rs m → Exactly (StepSays m img (pc r)) (verdictIn o)
   step-told {o} e = step-exactly m img (pc r) (verdictIn o) (ap (λ (s : StepOf). verdictIn (s .outcome)) e ∙ step-verdict) .1
@@ -101,8 +101,8 @@ not-refused (ending.Stopped s) h x p = let z : _≡_ {A = ℕ} 0 1 = cc in omega
 pub ready-after : {img : List ℕ} {r : Registers} {m : Memory} → Ready img r m → (xs : List ℕ) (rs : List Range) → (let s = stepOf img r xs rs m in Ready img (s .registers) (s .memory))
 ready-after {img} {r} {m} y xs rs =
     let v = oneOf img r xs rs m in
-    rw (accepted-step img r xs rs m (y .accepted)) (by _ (v .ending) (v .registers) (v .memory) (ready-next y xs rs v refl))
+    rw (accepted-step img r xs rs m (y .accepted)) (by _ _ (v .ending) (v .registers) (v .memory) (ready-next y xs rs v refl))
   where
-    by : (p : Permits) (e : Ending) (q : Registers) (n : Memory) → Ready img q n → (let s = acceptedBy r xs m p e q n in Ready img (s .registers) (s .memory))
-    by p (ending.Made e) q n z = z
-    by p (ending.Stopped s) q n z = y
+    by : (ys : List ℕ) (p : Permits) (e : Ending) (q : Registers) (n : Memory) → Ready img q n → (let s = acceptedBy r xs m ys p e q n in Ready img (s .registers) (s .memory))
+    by ys p (ending.Made e) q n z = z
+    by ys p (ending.Stopped s) q n z = y

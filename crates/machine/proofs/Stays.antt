@@ -15,7 +15,7 @@ use Rattle.inputs.specs.Checks.{stepVerdict}
 use Rattle.inputs.specs.declared.verdict.Refusal.{Refusal}
 use Rattle.inputs.specs.declared.verdict.Verdict.{Verdict}
 use Rattle.inputs.specs.declared.verdict.Verdict.the-variants as verdict
-use Rattle.decisions.specs.Phases.{oneOf, requestsOf}
+use Rattle.decisions.specs.Decision.{oneOf, requestsOf}
 use Rattle.decisions.specs.Valid.{Valid, Bytes}
 use Rattle.permits.specs.declared.Permits.{Permits}
 use Rattle.decisions.proofs.Steps.{one-kept}
@@ -38,15 +38,15 @@ module _ {img : List ℕ} (image : Bytes img) (rs : List Range) where
   unfolding stepOf
   step-bounds {r} {m} h xs = by-verdict (stepVerdict m img (pc r))
     where
-      by-ending : (p : Permits) (e : Ending) (q : Registers) (n : Memory) → InBounds q n → (let s = acceptedBy r xs m p e q n in InBounds (s .registers) (s .memory))
-      by-ending p (ending.Made e) q n k = k
-      by-ending p (ending.Stopped s) q n k = h
+      by-ending : (ys : List ℕ) (p : Permits) (e : Ending) (q : Registers) (n : Memory) → InBounds q n → (let s = acceptedBy r xs m ys p e q n in InBounds (s .registers) (s .memory))
+      by-ending ys p (ending.Made e) q n k = k
+      by-ending ys p (ending.Stopped s) q n k = h
 
       by-verdict : (v : Verdict) → (let s = steppedBy img r xs rs m v in InBounds (s .registers) (s .memory))
       by-verdict verdict.Accepted =
           let v = oneOf img r xs rs m in
           let k = one-kept (h .valid) m (h .bytes) image xs rs in
-          by-ending _ (v .ending) (v .registers) (v .memory) (record { valid = k .valid; bytes = k .bytes })
+          by-ending _ _ (v .ending) (v .registers) (v .memory) (record { valid = k .valid; bytes = k .bytes })
       by-verdict (verdict.Refused x) = h
 
   -- ---- a run
@@ -78,10 +78,10 @@ module _ {img : List ℕ} (image : Bytes img) (rs : List Range) where
   from-accepted zero last made y xs x p = not-refused (ending.Made last) refl x p
   from-accepted (suc n) last made {r} {m} y xs x p =
       let v = oneOf img r xs rs m in
-      by (v .ending) refl (λ e. from-accepted n e (made + 1) (ready-next y xs rs v refl) (requestsOf r xs) x)
+      by (v .ending) refl (λ e. from-accepted n e (made + 1) (ready-next y xs rs v refl) (requestsOf img r xs rs) x)
     where
       by : (d : Ending) → oneOf img r xs rs m .ending ≡ d
-          → ((e : Event) → runFrom n img rs (Made e) (made + 1) (oneOf img r xs rs m .registers) (requestsOf r xs) (oneOf img r xs rs m .memory) .outcome ≡ Refused x → ⊥) → ⊥
+          → ((e : Event) → runFrom n img rs (Made e) (made + 1) (oneOf img r xs rs m .registers) (requestsOf img r xs rs) (oneOf img r xs rs m .memory) .outcome ≡ Refused x → ⊥) → ⊥
       by (ending.Made e) g next = next e (ap (λ (w : RunOf). w .outcome) (run-made y xs rs (oneOf img r xs rs m) refl n made (Made last) e g) ∙ p)
       by (ending.Stopped s) g next = not-refused (ending.Stopped s) refl x (ap (λ (w : RunOf). w .outcome) (run-stopped y xs rs (oneOf img r xs rs m) refl n made (Made last) s g) ∙ p)
 

@@ -14,7 +14,7 @@ use Rattle.events.specs.declared.event.Event.{Event}
 use Rattle.events.specs.declared.event.Stop.{Stop}
 use Rattle.events.specs.declared.event.Ending.the-variants as ending
 use Rattle.protection.specs.declared.range.Range.{Range}
-use Rattle.interrupts.specs.Sources.{bestOf, takes, clearedAt}
+use Rattle.interrupts.specs.Sources.{takes}
 use Rattle.entries.specs.Entry.{MadeOf}
 use Rattle.image.specs.Records.{imageOf, ImageHolds}
 use Rattle.image.specs.declared.records.ImageCheck.{ImageCheck}
@@ -24,7 +24,7 @@ use Rattle.inputs.proofs.Verdicts.{step-says}
 use Rattle.inputs.specs.declared.verdict.Refusal.{Refusal}
 use Rattle.inputs.specs.declared.verdict.Verdict.{Verdict}
 use Rattle.inputs.specs.declared.verdict.Verdict.the-variants.{Accepted, Refused}
-use Rattle.decisions.specs.Phases.{oneOf, instructionOf, interrupted, requestsOf}
+use Rattle.decisions.specs.Decision.{oneOf, requestsOf}
 use Rattle.decisions.proofs.Steps.{Kept, one-kept}
 use Rattle.permits.specs.Permits.{permitsOf}
 use Rattle.machine.specs.Step.{stepped, acceptedOf, stepOf}
@@ -56,14 +56,14 @@ module _ {img : List ℕ} {r : Registers} {m : Memory} (y : Ready img r m) (xs :
         bytes = kept .bytes;
       }
 
-  step-made : (e : Event) → v .ending ≡ ending.Made e → stepOf img r xs rs m ≡ stepped (Made e) (v .registers) (requestsOf r xs) (v .memory) (permitsOf img (r .a) (r .core) xs rs)
+  step-made : (e : Event) → v .ending ≡ ending.Made e → stepOf img r xs rs m ≡ stepped (Made e) (v .registers) (requestsOf img r xs rs) (v .memory) (permitsOf img (r .a) (r .core) xs rs)
   step-made e h = accepted-step img r xs rs m (y .accepted) ∙ rw (← is, h)
 
   step-stopped : (s : Stop) → v .ending ≡ ending.Stopped s → stepOf img r xs rs m ≡ stepped (Stopped s) (v .registers) xs (v .memory) (permitsOf img (r .a) (r .core) xs rs)
   step-stopped s h = accepted-step img r xs rs m (y .accepted) ∙ rw (← is, h, kept .leaves s h .0, kept .leaves s h .1)
 
   pub run-made : (left made : ℕ) (last : Outcome) (e : Event) → v .ending ≡ ending.Made e
-      → runFrom left img rs (Made e) (made + 1) (v .registers) (requestsOf r xs) (v .memory) ≡ runFrom (suc left) img rs last made r xs m
+      → runFrom left img rs (Made e) (made + 1) (v .registers) (requestsOf img r xs rs) (v .memory) ≡ runFrom (suc left) img rs last made r xs m
   unfolding runFrom
   run-made left made last e g = rw (step-made e g)
 
@@ -85,24 +85,6 @@ run-last (suc left) img rs x y made r xs m h = refl
 pub off : (icr level : ℕ) → ICR·IE icr ≡ false → takes icr level ≡ false
 unfolding takes
 off icr level e = rw e
-
--- ---- a step without an interrupt, and one with it
-module _ (img : List ℕ) (r : Registers) (xs : List ℕ) (rs : List Range) (m : Memory) where
-  pub quiet-one : takes (icr r) (bestOf xs .level) ≡ false → instructionOf img r rs m ≡ oneOf img r xs rs m
-  unfolding oneOf
-  quiet-one e = rw e
-
-  pub quiet-requests : takes (icr r) (bestOf xs .level) ≡ false → requestsOf r xs ≡ xs
-  unfolding requestsOf
-  quiet-requests e = rw e
-
-  pub taken-one : takes (icr r) (bestOf xs .level) ≡ true → interrupted (bestOf xs) r m ≡ oneOf img r xs rs m
-  unfolding oneOf
-  taken-one e = rw e
-
-  pub taken-requests : takes (icr r) (bestOf xs .level) ≡ true → clearedAt xs (bestOf xs .source) ≡ requestsOf r xs
-  unfolding requestsOf
-  taken-requests e = rw e
 
 -- an accepted image holds
 never : {x : Refusal} → Refused x ≡ Accepted → ⊥

@@ -14,7 +14,7 @@ use Rattle.protection.specs.declared.range.Range.{Range}
 use Rattle.inputs.specs.Checks.{stepVerdict}
 use Rattle.inputs.specs.declared.verdict.Verdict.{Verdict}
 use Rattle.inputs.specs.declared.verdict.Verdict.the-variants as verdict
-use Rattle.decisions.specs.Phases.{oneOf}
+use Rattle.decisions.specs.Decision.{oneOf}
 use Rattle.permits.specs.declared.Permits.{Permits}
 use Rattle.machine.specs.Step.{StepOf, acceptedBy, steppedBy, stepOf}
 use Rattle.machine.specs.Run.{RunOf, ran, onward, runFrom, runBy, runOf}
@@ -48,12 +48,12 @@ module _ (img : List ℕ) (r : Registers) (xs : List ℕ) (rs : List Range) (m :
   Unmoved (Stopped x) s = Leaves r xs m (ran (Stopped x) 0 (s .registers) (s .requests) (s .memory))
   Unmoved (Refused x) s = Leaves r xs m (ran (Refused x) 0 (s .registers) (s .requests) (s .memory))
 
-  by-ending : (p : Permits) (e : Ending) (q : Registers) (w : Memory) → (let s = acceptedBy r xs m p e q w in Unmoved (s .outcome) s)
-  by-ending p (ending.Made e) q w = tt
-  by-ending p (ending.Stopped s) q w = record { registers = refl; requests = refl; memory = refl }
+  by-ending : (ys : List ℕ) (p : Permits) (e : Ending) (q : Registers) (w : Memory) → (let s = acceptedBy r xs m ys p e q w in Unmoved (s .outcome) s)
+  by-ending ys p (ending.Made e) q w = tt
+  by-ending ys p (ending.Stopped s) q w = record { registers = refl; requests = refl; memory = refl }
 
   by-verdict : (v : Verdict) → (let s = steppedBy img r xs rs m v in Unmoved (s .outcome) s)
-  by-verdict verdict.Accepted = let v = oneOf img r xs rs m in by-ending _ (v .ending) (v .registers) (v .memory)
+  by-verdict verdict.Accepted = let v = oneOf img r xs rs m in by-ending _ _ (v .ending) (v .registers) (v .memory)
   by-verdict (verdict.Refused x) = record { registers = refl; requests = refl; memory = refl }
 
   pub unmoved : (let s = stepOf img r xs rs m in Unmoved (s .outcome) s)

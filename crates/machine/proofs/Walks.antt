@@ -21,18 +21,22 @@ use Rattle.image.specs.Rest.{IndexSays}
 use Rattle.image.specs.Fetch.{nextAfter, instructionAt}
 use Rattle.image.specs.declared.fetch.Instruction.{Instruction}
 use Rattle.entries.specs.Entry.{MadeOf}
+use Rattle.acts.specs.Acts.{controlOf}
+use Rattle.acts.specs.declared.Control.{Control}
+use Rattle.acts.proofs.Steadiness.{same-control}
 use Rattle.execute.specs.Execute.{executeOf}
-use Rattle.execute.specs.Executed.{endingOf, isSteady, Kept}
+use Rattle.execute.specs.Executed.{endingOf, isSteady, staysSteady}
 use Rattle.execute.specs.declared.Executed.{Executed}
 use Rattle.execute.specs.declared.Executed.the-variants as executed
-use Rattle.decisions.specs.Phases.{oneOf, instructionOf, requestsOf}
+use Rattle.decisions.specs.Decision.{oneOf, requestsOf}
+use Rattle.decisions.proofs.Beginnings.{fetchedStep, quiet-one, quiet-requests}
 use Rattle.machine.specs.Run.{runFrom}
 use Rattle.spans.specs.Spans.{begin, Lies, SpanHolds, IndexIn, Current, PlaceIn}
 use Rattle.machine.specs.Inner.{Ready, paced, pacedAfter, Paces}
 use Rattle.machine.specs.declared.answer.Outcome.{Outcome}
 use Rattle.machine.specs.declared.answer.Outcome.the-variants as outcome
 use Rattle.spans.specs.declared.Span.{Span}
-use Rattle.machine.proofs.Turns.{ready-next, run-made, run-stopped, run-last, quiet-one, quiet-requests}
+use Rattle.machine.proofs.Turns.{ready-next, run-made, run-stopped, run-last}
 use Rattle.spans.proofs.Spans.{in-span, span-steady, index-by, counted-long, next-begins, long-four}
 
 module _ (n : ℕ) (img : List ℕ) (rs : List Range) (r₀ : Registers) (m₀ : Memory) where
@@ -59,12 +63,12 @@ module _ (n : ℕ) (img : List ℕ) (rs : List Range) (r₀ : Registers) (m₀ :
       }
 
   -- ---- after the instruction
-  module _ {left : ℕ} {r : Registers} {m : Memory} (t : Stands left r m) {v : MadeOf} (is : v ≡ instructionOf img r rs m) where
+  module _ {left : ℕ} {r : Registers} {m : Memory} (t : Stands left r m) {v : MadeOf} (is : v ≡ fetchedStep img r rs m) where
     one : (xs : List ℕ) → Quiet xs → v ≡ oneOf img r xs rs m
-    one xs q = is ∙ quiet-one img r xs rs m (rw (t .same) q)
+    one xs q = is ∙ quiet-one img r rs m xs (rw (t .same) q)
 
-    requests : (xs : List ℕ) → Quiet xs → requestsOf r xs ≡ xs
-    requests xs q = quiet-requests img r xs rs m (rw (t .same) q)
+    requests : (xs : List ℕ) → Quiet xs → requestsOf img r xs rs ≡ xs
+    requests xs q = quiet-requests img r rs m xs (rw (t .same) q)
 
     ready : (xs : List ℕ) → Quiet xs → Ready img (v .registers) (v .memory)
     ready xs q = ready-next (t .ready xs q) xs rs v (one xs q)
@@ -141,16 +145,17 @@ module _ (n : ℕ) (img : List ℕ) (rs : List Range) (r₀ : Registers) (m₀ :
     pub walk-first : 0 < n → Ready img r₀ m₀ → SpanHolds img long (r₀ .core) rs s → s .from ≡ pc r₀ → 0 < s .records → Walk n 0 r₀ m₀
     walk-first h y p e l = record { stands = stands-first h y; span = p; inside = l; at = sym e ∙ sym (after-none img (s .at) (s .from)) }
 
-    pub walk-is : {left k : ℕ} {r : Registers} {m : Memory} → Walk left k r m → {i : Instruction} → i ≡ instructionAt img (s .at + 8 * k) (pc r) → {v : MadeOf} → v ≡ executeOf i r rs m → v ≡ instructionOf img r rs m
+    pub walk-is : {left k : ℕ} {r : Registers} {m : Memory} → Walk left k r m → {i : Instruction} → i ≡ instructionAt img (s .at + 8 * k) (pc r) → {v : MadeOf} → v ≡ executeOf i r rs m → v ≡ fetchedStep img r rs m
     walk-is {left} {k} {r} {m} t e h = h ∙ ap (λ (i : Instruction). executeOf i r rs m) e ∙ in-span r (t .span) k (t .inside) (t .at) m
 
-    pub walk-next : {left k : ℕ} {r : Registers} {m : Memory} → Walk left k r m → {v : MadeOf} → v ≡ instructionOf img r rs m → (x : Executed) → v .ending ≡ endingOf x → isSteady x ≡ true → Kept x r (v .registers) → 0 < left - 1
+    pub walk-next : {left k : ℕ} {r : Registers} {m : Memory} → Walk left k r m → {v : MadeOf} → v ≡ fetchedStep img r rs m → (x : Executed) → v .ending ≡ endingOf x → isSteady x ≡ true → isSteady x ≡ staysSteady (endingOf x) r (v .registers) → 0 < left - 1
         → (j : ℕ) → IndexIn img s (pc (v .registers)) j → j < s .records → Walk (left - 1) j (v .registers) (v .memory)
     walk-next {left} {k} {r} {m} t {v} is executed.Steady e z x h j i l =
         let p = t .span in
+        let y = same-control (controlOf (r .core)) (controlOf (v .registers .core)) (sym x) in
         record {
-          stands = stands-next (t .stands) is e (x .interrupts) h;
-          span = span-steady r p (v .registers) x;
+          stands = stands-next (t .stands) is e (ap (λ (c : Control). c .icr) y) h;
+          span = span-steady r p (v .registers) (record { same = y });
           inside = l;
           at = i l;
         }

@@ -10,7 +10,7 @@ use Rattle.protection.specs.declared.range.Range.{Range}
 use Rattle.inputs.specs.Checks.{stepVerdict}
 use Rattle.inputs.specs.declared.verdict.Verdict.{Verdict}
 use Rattle.inputs.specs.declared.verdict.Verdict.the-variants as verdict
-use Rattle.decisions.specs.Phases.{oneOf, requestsOf}
+use Rattle.decisions.specs.Decision.{oneOf, requestsOf}
 use Rattle.permits.specs.Permits.{noPermits, permitsOf}
 use Rattle.permits.specs.declared.Permits.{Permits}
 use Rattle.machine.specs.declared.answer.Outcome.{Outcome}
@@ -37,13 +37,15 @@ pub record StepOf : Type 0 where
 abbrev pub stepped : Outcome → Registers → List ℕ → Memory → Permits → StepOf
 stepped o r xs m p = record { outcome = o; registers = r; requests = xs; memory = m; permits = p }
 
--- a stop hands no new state on, but names the ranges
-abbrev pub acceptedBy : Registers → List ℕ → Memory → Permits → Ending → Registers → Memory → StepOf
-acceptedBy r xs m p (ending.Stopped s) q n = stepped (Stopped s) r xs m p
-acceptedBy r xs m p (ending.Made e) q n = stepped (Made e) q (requestsOf r xs) n p
+-- a stop hands no new state on, but names the ranges; ys are the requests after a step that is made
+abbrev pub acceptedBy : Registers → List ℕ → Memory → List ℕ → Permits → Ending → Registers → Memory → StepOf
+acceptedBy r xs m ys p (ending.Stopped s) q n = stepped (Stopped s) r xs m p
+acceptedBy r xs m ys p (ending.Made e) q n = stepped (Made e) q ys n p
 
 abbrev pub acceptedOf : List ℕ → Registers → List ℕ → List Range → Memory → StepOf
-acceptedOf img r xs rs m = let v = oneOf img r xs rs m in acceptedBy r xs m (permitsOf img (r .a) (r .core) xs rs) (v .ending) (v .registers) (v .memory)
+acceptedOf img r xs rs m =
+    let v = oneOf img r xs rs m in
+    acceptedBy r xs m (requestsOf img r xs rs) (permitsOf img (r .a) (r .core) xs rs) (v .ending) (v .registers) (v .memory)
 
 abbrev pub steppedBy : List ℕ → Registers → List ℕ → List Range → Memory → Verdict → StepOf
 steppedBy img r xs rs m (verdict.Refused x) = stepped (Refused x) r xs m noPermits

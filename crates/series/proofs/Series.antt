@@ -59,10 +59,10 @@ module _ (L : List Link) (a : Args) (b : AbstractLists) where
     restored : RestoredBy d (s .registers) b
     stops : StopsBy (s .outcome) b now
 
-  settled : (d : Decision) (p : Permits) (x : MadeOf) → Kept r m x → Moves L d r b x → Settled d (acceptedBy r (a .requests) m p (x .ending) (x .registers) (x .memory)) (moved (moveOf d r) b)
+  settled : (d : Decision) (ys : List ℕ) (p : Permits) (x : MadeOf) → Kept r m x → Moves L d r b x → Settled d (acceptedBy r (a .requests) m ys p (x .ending) (x .registers) (x .memory)) (moved (moveOf d r) b)
   settled d p x k z = by (x .ending) refl
     where
-      by : (e : Ending) → x .ending ≡ e → Settled d (acceptedBy r (a .requests) m p e (x .registers) (x .memory)) (moved (moveOf d r) b)
+      by : (e : Ending) → x .ending ≡ e → Settled d (acceptedBy r (a .requests) m ys p e (x .registers) (x .memory)) (moved (moveOf d r) b)
       by (ending.Made e) h = record { inv = z .inv; restored = z .restores; stops = tt }
       by (ending.Stopped y) h =
           record {
