@@ -12,10 +12,9 @@ use Rattle.memory.proofs.Words.{putWord-byte, putWord-length, putWord-same, put
 use Rattle.areas.specs.Area.{areaAt}
 use Rattle.areas.proofs.Parts.{area-length, area-word, area-first}
 use Rattle.registers.specs.declared.Registers.{Registers}
-use Rattle.contexts.specs.Context.{upperOf, lowerOf}
+use Rattle.contexts.specs.Context.{upperOf, lowerOf, contextOf}
 use Rattle.contexts.specs.declared.context.Half.{Half}
 use Rattle.contexts.specs.declared.context.Half.the-variants.{Upper, Lower}
-use Rattle.acts.specs.Acts.{contextOf}
 use Rattle.series.specs.Abstract.{upperRegisters, lowerRegisters, named, held}
 
 -- ---- an area whose bytes are as they were

@@ -24,10 +24,9 @@ use Rattle.areas.proofs.Places.{apart, placed-at}
 use Rattle.areas.proofs.Parts.{area-first}
 use Rattle.lists.specs.Lists.{Leads, count}
 use Rattle.lists.proofs.Counts.{one-self}
-use Rattle.contexts.specs.Context.{ulOf, upperOf, lowerOf}
+use Rattle.contexts.specs.Context.{ulOf, upperOf, lowerOf, contextOf}
 use Rattle.contexts.specs.declared.context.Half.{Half}
 use Rattle.contexts.specs.declared.context.Half.the-variants.{Upper, Lower}
-use Rattle.acts.specs.Acts.{contextOf}
 use Rattle.decisions.specs.Valid.{Valid, Bytes}
 use Rattle.decisions.proofs.Memories.{bytes-word, bytes-words, context-words}
 use Rattle.series.specs.Abstract.{named, held, SavedContext, context, AbstractLists, lists, links}

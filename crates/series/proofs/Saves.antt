@@ -26,8 +26,7 @@ use Rattle.areas.specs.Place.{placeOf}
 use Rattle.fields.specs.declared.link.Link.{Link}
 use Rattle.areas.specs.declared.link.Place.the-variants.{At}
 use Rattle.lists.specs.Lists.{Leads}
-use Rattle.contexts.specs.Context.{ulOf, upperOf}
-use Rattle.acts.specs.Acts.{contextOf}
+use Rattle.contexts.specs.Context.{ulOf, upperOf, contextOf}
 use Rattle.contexts.specs.Save.{roomOf}
 use Rattle.contexts.specs.declared.context.Half.{Half}
 use Rattle.contexts.specs.declared.context.Half.the-variants.{Upper}

@@ -16,10 +16,10 @@ use Rattle.entries.specs.Entry.{MadeOf}
 use Rattle.inputs.specs.Checks.{stepVerdict}
 use Rattle.inputs.specs.declared.verdict.Verdict.{Verdict}
 use Rattle.inputs.specs.declared.verdict.Verdict.the-variants.{Accepted, Refused}
-use Rattle.decisions.specs.Phases.{oneOf}
 use Rattle.decisions.specs.Heads.{stepHeads}
-use Rattle.decisions.specs.Decision.{Decision}
-use Rattle.decisions.proofs.Decides.{one-is, decision-sound}
+use Rattle.execute.specs.Decision.{Decision}
+use Rattle.decisions.specs.Decision.{oneOf}
+use Rattle.decisions.proofs.Decides.{decision-sound}
 use Rattle.decisions.proofs.Steps.{Kept, one-kept}
 use Rattle.permits.specs.Permits.{noPermits}
 use Rattle.permits.specs.declared.Permits.{Permits}
@@ -60,7 +60,7 @@ module _ (L : List Link) (a : Args) (b : AbstractLists) where
     stops : StopsBy (s .outcome) b now
 
   settled : (d : Decision) (ys : List ℕ) (p : Permits) (x : MadeOf) → Kept r m x → Moves L d r b x → Settled d (acceptedBy r (a .requests) m ys p (x .ending) (x .registers) (x .memory)) (moved (moveOf d r) b)
-  settled d p x k z = by (x .ending) refl
+  settled d ys p x k z = by (x .ending) refl
     where
       by : (e : Ending) → x .ending ≡ e → Settled d (acceptedBy r (a .requests) m ys p e (x .registers) (x .memory)) (moved (moveOf d r) b)
       by (ending.Made e) h = record { inv = z .inv; restored = z .restores; stops = tt }
@@ -72,7 +72,7 @@ module _ (L : List Link) (a : Args) (b : AbstractLists) where
           }
 
   pub step-turns : Inv L (state r m) b → QuietBy (verdictAt a) L a → Turned (verdictAt a) (movedAt a b)
-  unfolding moved
+  unfolding moved oneOf
   step-turns i q = by (verdictAt a) refl q
     where
       by : (v : Verdict) → verdictAt a ≡ v → QuietBy v L a → Turned v (movedAt a b)
@@ -84,8 +84,8 @@ module _ (L : List Link) (a : Args) (b : AbstractLists) where
           let y = i .bytes in
           let d = decisionAt a in
           let x = oneOf (a .image .bytes) r (a .requests) (a .ranges) m in
-          let z : Moves L d r b x = rw (one-is (a .image .are) w (a .requests) (a .ranges) m y) (decision-moves (stepHeads (a .image .bytes) r (a .requests) (a .ranges) ≡ false) (k .heads) i d (decision-sound (a .image .are) w (a .requests) (a .ranges) m y) (k .stores)) in
-          let t = settled d _ x (one-kept w m y (a .image .are) (a .requests) (a .ranges)) z in
+          let z : Moves L d r b x = (decision-moves (stepHeads (a .image .bytes) r (a .requests) (a .ranges) ≡ false) (k .heads) i d (decision-sound (a .image .are) w (a .requests) (a .ranges) m y) (k .stores)) in
+          let t = settled d _ _ x (one-kept w m y (a .image .are) (a .requests) (a .ranges)) z in
           let s = accepted-step (a .image .bytes) r (a .requests) (a .ranges) m e in
           record {
             inv = rw (moved-is Accepted e, s) (t .inv);

@@ -34,9 +34,9 @@ use Rattle.entries.specs.Entry.{MadeOf}
 use Rattle.acts.specs.Acts.{storedOf}
 use Rattle.words.proofs.Truth as truth
 use Rattle.decisions.specs.Valid.{Valid}
-use Rattle.decisions.specs.Decision.{Decision, Keep, Write, Save, Return, performedOf}
+use Rattle.execute.specs.Decision.{Decision, Keep, Write, Save, Return, performedOf}
 use Rattle.decisions.proofs.Sound.{Sound}
-use Rattle.decisions.proofs.Acts as acts
+use Rattle.decisions.proofs.Acts.{HasPrevious}
 use Rattle.decisions.proofs.Thens.{ReturnThen}
 use Rattle.decisions.proofs.Memories.{bytes-stored, stored-length}
 use Rattle.decisions.proofs.Decides.{DecisionSound}
@@ -138,7 +138,7 @@ module _ (at : ℕ) (r : Registers) (bytes : List ℕ) (w : Valid r) where
       getD-set-other (set (r .core) 2 (wordAt area 0)) 3 2 (linkOf (pcxi r) .0) 0 (λ e. omega arith)
       ∙ head-set (r .core) 2 (wordAt area 0) (omega (arith, w .core .size))
 
-module _ (half : Half) (then : Registers → Registers) (t : ReturnThen then) (L : List Link) (r : Registers) (m : Memory) (l : acts.Leads half (pcxi r)) where
+module _ (half : Half) (then : Registers → Registers) (t : ReturnThen then) (L : List Link) (r : Registers) (m : Memory) (l : HasPrevious half (pcxi r)) where
   pub record Returned (b : AbstractLists) (x : MadeOf) : Type 0 where
     pub inv : Inv L (state (x .registers) (x .memory)) (returnOne (b .saved) b)
     pub stays : (y : Stop) → x .ending ≡ Stopped y → returnOne (b .saved) b ≡ b

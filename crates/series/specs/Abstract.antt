@@ -12,7 +12,7 @@ use Rattle.fields.specs.declared.link.Link.{Link}
 use Rattle.contexts.specs.Context.{ulOf}
 use Rattle.contexts.specs.declared.context.Half.{Half}
 use Rattle.contexts.specs.declared.context.Half.the-variants.{Upper, Lower}
-use Rattle.decisions.specs.Decision.{Decision, Keep, Write, Save, Return}
+use Rattle.execute.specs.Decision.{Decision, Keep, Write, Save, Return}
 
 -- the upper half's registers but PCXI: PSW, A10 to A15, D8 to D15
 unfoldable pub upperRegisters : Registers → List ℕ

@@ -16,7 +16,7 @@ use Rattle.lists.specs.Lists.{Leads, count}
 use Rattle.contexts.specs.Context.{ulOf}
 use Rattle.inputs.specs.declared.verdict.Verdict.{Verdict}
 use Rattle.inputs.specs.declared.verdict.Verdict.the-variants.{Accepted, Refused}
-use Rattle.decisions.specs.Decision.{Decision, Keep, Write, Save, Return}
+use Rattle.execute.specs.Decision.{Decision, Keep, Write, Save, Return}
 use Rattle.machine.specs.declared.answer.Outcome.{Outcome}
 use Rattle.machine.specs.declared.answer.Outcome.the-variants as outcome
 use Rattle.series.specs.Abstract.{named, held, SavedContext, AbstractLists, links}

@@ -15,7 +15,8 @@ use Rattle.inputs.specs.Checks.{stepVerdict}
 use Rattle.inputs.specs.declared.verdict.Verdict.{Verdict}
 use Rattle.inputs.specs.declared.verdict.Verdict.the-variants.{Accepted, Refused}
 use Rattle.decisions.specs.Heads.{stepHeads}
-use Rattle.decisions.specs.Decision.{Decision, Keep, Write, Save, Return, decisionOf}
+use Rattle.execute.specs.Decision.{Decision, Keep, Write, Save, Return}
+use Rattle.decisions.specs.Decision.{decisionOf}
 use Rattle.series.specs.Abstract.{AbstractLists, Move, none, moveOf, moved}
 use Rattle.series.specs.Calls.{Args}
 

@@ -16,7 +16,7 @@ use Rattle.lists.specs.Walk.{walkOf, listsOf}
 use Rattle.contexts.specs.Context.{upperOf, lowerOf}
 use Rattle.contexts.specs.Save.{roomAt, takeOf, foreseenOf, saveAtOf, saveOf}
 use Rattle.contexts.specs.Restore.{loadOf, returnOf}
-use Rattle.entries.specs.Entry.{stackOf, enteredOf, trapEntry, interruptEntry, interruptOf, trapOf, fcdOf}
+use Rattle.entries.specs.Entry.{stackOf, enteredOf, trapEntry, interruptEntry, fcdOf}
 use Rattle.protection.specs.Range.{enables, permits, firstOf, anyFrom}
 use Rattle.protection.specs.Access.{checkOf}
 use Rattle.interrupts.specs.Sources.{betterOf, bestBelow, takes, clearedAt}
@@ -34,9 +34,9 @@ use Rattle.accesses.specs.Store.{storeOf}
 use Rattle.calls.specs.Saves.{calledThen, callOf, svlcxOf, bisrThen, bisrOf}
 use Rattle.calls.specs.Returns.{previousOf, retOf, rfeOf, rslcxOf}
 use Rattle.calls.specs.Instructions.{contextOp}
-use Rattle.execute.specs.Execute.{actOf, finishOf, executeOf}
-use Rattle.decisions.specs.Phases.{instructionOf, oneOf, requestsOf}
-use Rattle.decisions.specs.Decision.{decisionOf}
+use Rattle.execute.specs.Execute.{actOf}
+use Rattle.decisions.specs.Beginning.{fetchingAt, beginningOf}
+use Rattle.decisions.specs.Decision.{decisionOf, oneOf, requestsOf}
 use Rattle.machine.specs.Step.{stepOf}
 use Rattle.machine.specs.Run.{runFrom, runOf}
 use Rattle.series.specs.Calls.{afterAll, runArgs, allArgs}
@@ -57,25 +57,25 @@ unfolding spotAt placedIn
 crossing = refl
 
 pub happened : outcomes (allArgs calls start) ≡ happening
-unfolding bit isSet counterBits counts overflowsUp underflowsDown nested calledOf icrOf pcxiOf requests clearedOf wordAt wordsAt putWord putWords plusOf placedAt spotAt placedIn upperOf lowerOf roomAt takeOf foreseenOf saveAtOf saveOf loadOf returnOf stackOf enteredOf trapEntry interruptEntry interruptOf trapOf fcdOf betterOf bestBelow takes clearedAt enables permits firstOf anyFrom checkOf operationOf entryAt addressAfter lengthOf operationNumber entryFits entriesFrom tableOf recordHolds recordsFrom imageOf bodyWalk restFrom restOf instructionAt fetchOf windowHolds secondHolds apartHolds windowsVerdict stepVerdict calledThen callOf svlcxOf bisrThen bisrOf previousOf retOf rfeOf rslcxOf contextOp alignedReach reachOf storeOf actOf finishOf executeOf instructionOf oneOf requestsOf stepOf runFrom runOf runArgs
+unfolding bit isSet counterBits counts overflowsUp underflowsDown nested calledOf icrOf pcxiOf requests clearedOf wordAt wordsAt putWord putWords plusOf placedAt spotAt placedIn upperOf lowerOf roomAt takeOf foreseenOf saveAtOf saveOf loadOf returnOf stackOf enteredOf trapEntry interruptEntry fcdOf betterOf bestBelow takes clearedAt enables permits firstOf anyFrom checkOf operationOf entryAt addressAfter lengthOf operationNumber entryFits entriesFrom tableOf recordHolds recordsFrom imageOf bodyWalk restFrom restOf instructionAt fetchOf windowHolds secondHolds apartHolds windowsVerdict stepVerdict calledThen callOf svlcxOf bisrThen bisrOf previousOf retOf rfeOf rslcxOf contextOp alignedReach reachOf storeOf actOf fetchingAt beginningOf decisionOf oneOf requestsOf stepOf runFrom runOf runArgs
 happened = refl
 
 pub no-area-left : movedAll (allArgs saving start) begun ≡ depleted
-unfolding bit isSet counterBits counts overflowsUp underflowsDown nested calledOf icrOf pcxiOf requests clearedOf wordAt wordsAt putWord putWords plusOf placedAt spotAt placedIn upperOf lowerOf roomAt takeOf foreseenOf saveAtOf saveOf loadOf returnOf stackOf enteredOf trapEntry interruptEntry interruptOf trapOf fcdOf betterOf bestBelow takes clearedAt enables permits firstOf anyFrom checkOf operationOf entryAt addressAfter lengthOf operationNumber entryFits entriesFrom tableOf recordHolds recordsFrom imageOf bodyWalk restFrom restOf instructionAt fetchOf windowHolds secondHolds apartHolds windowsVerdict stepVerdict calledThen callOf svlcxOf bisrThen bisrOf previousOf retOf rfeOf rslcxOf contextOp alignedReach reachOf storeOf actOf finishOf executeOf instructionOf oneOf requestsOf stepOf runFrom runOf runArgs decisionOf upperRegisters lowerRegisters moved movedAt
+unfolding bit isSet counterBits counts overflowsUp underflowsDown nested calledOf icrOf pcxiOf requests clearedOf wordAt wordsAt putWord putWords plusOf placedAt spotAt placedIn upperOf lowerOf roomAt takeOf foreseenOf saveAtOf saveOf loadOf returnOf stackOf enteredOf trapEntry interruptEntry fcdOf betterOf bestBelow takes clearedAt enables permits firstOf anyFrom checkOf operationOf entryAt addressAfter lengthOf operationNumber entryFits entriesFrom tableOf recordHolds recordsFrom imageOf bodyWalk restFrom restOf instructionAt fetchOf windowHolds secondHolds apartHolds windowsVerdict stepVerdict calledThen callOf svlcxOf bisrThen bisrOf previousOf retOf rfeOf rslcxOf contextOp alignedReach reachOf storeOf actOf fetchingAt beginningOf oneOf requestsOf stepOf runFrom runOf runArgs decisionOf upperRegisters lowerRegisters moved movedAt
 no-area-left = refl
 
 pub no-area-used : movedAll (allArgs (saving ++ returning) start) begun ≡ allFree
-unfolding bit isSet counterBits counts overflowsUp underflowsDown nested calledOf icrOf pcxiOf requests clearedOf wordAt wordsAt putWord putWords plusOf placedAt spotAt placedIn upperOf lowerOf roomAt takeOf foreseenOf saveAtOf saveOf loadOf returnOf stackOf enteredOf trapEntry interruptEntry interruptOf trapOf fcdOf betterOf bestBelow takes clearedAt enables permits firstOf anyFrom checkOf operationOf entryAt addressAfter lengthOf operationNumber entryFits entriesFrom tableOf recordHolds recordsFrom imageOf bodyWalk restFrom restOf instructionAt fetchOf windowHolds secondHolds apartHolds windowsVerdict stepVerdict calledThen callOf svlcxOf bisrThen bisrOf previousOf retOf rfeOf rslcxOf contextOp alignedReach reachOf storeOf actOf finishOf executeOf instructionOf oneOf requestsOf stepOf runFrom runOf runArgs decisionOf upperRegisters lowerRegisters moved movedAt
+unfolding bit isSet counterBits counts overflowsUp underflowsDown nested calledOf icrOf pcxiOf requests clearedOf wordAt wordsAt putWord putWords plusOf placedAt spotAt placedIn upperOf lowerOf roomAt takeOf foreseenOf saveAtOf saveOf loadOf returnOf stackOf enteredOf trapEntry interruptEntry fcdOf betterOf bestBelow takes clearedAt enables permits firstOf anyFrom checkOf operationOf entryAt addressAfter lengthOf operationNumber entryFits entriesFrom tableOf recordHolds recordsFrom imageOf bodyWalk restFrom restOf instructionAt fetchOf windowHolds secondHolds apartHolds windowsVerdict stepVerdict calledThen callOf svlcxOf bisrThen bisrOf previousOf retOf rfeOf rslcxOf contextOp alignedReach reachOf storeOf actOf fetchingAt beginningOf oneOf requestsOf stepOf runFrom runOf runArgs decisionOf upperRegisters lowerRegisters moved movedAt
 no-area-used = refl
 
 pub after : movedAll (allArgs calls start) begun ≡ ended
-unfolding bit isSet counterBits counts overflowsUp underflowsDown nested calledOf icrOf pcxiOf requests clearedOf wordAt wordsAt putWord putWords plusOf placedAt spotAt placedIn upperOf lowerOf roomAt takeOf foreseenOf saveAtOf saveOf loadOf returnOf stackOf enteredOf trapEntry interruptEntry interruptOf trapOf fcdOf betterOf bestBelow takes clearedAt enables permits firstOf anyFrom checkOf operationOf entryAt addressAfter lengthOf operationNumber entryFits entriesFrom tableOf recordHolds recordsFrom imageOf bodyWalk restFrom restOf instructionAt fetchOf windowHolds secondHolds apartHolds windowsVerdict stepVerdict calledThen callOf svlcxOf bisrThen bisrOf previousOf retOf rfeOf rslcxOf contextOp alignedReach reachOf storeOf actOf finishOf executeOf instructionOf oneOf requestsOf stepOf runFrom runOf runArgs decisionOf upperRegisters lowerRegisters moved movedAt
+unfolding bit isSet counterBits counts overflowsUp underflowsDown nested calledOf icrOf pcxiOf requests clearedOf wordAt wordsAt putWord putWords plusOf placedAt spotAt placedIn upperOf lowerOf roomAt takeOf foreseenOf saveAtOf saveOf loadOf returnOf stackOf enteredOf trapEntry interruptEntry fcdOf betterOf bestBelow takes clearedAt enables permits firstOf anyFrom checkOf operationOf entryAt addressAfter lengthOf operationNumber entryFits entriesFrom tableOf recordHolds recordsFrom imageOf bodyWalk restFrom restOf instructionAt fetchOf windowHolds secondHolds apartHolds windowsVerdict stepVerdict calledThen callOf svlcxOf bisrThen bisrOf previousOf retOf rfeOf rslcxOf contextOp alignedReach reachOf storeOf actOf fetchingAt beginningOf oneOf requestsOf stepOf runFrom runOf runArgs decisionOf upperRegisters lowerRegisters moved movedAt
 after = refl
 
 pub restored : afterAll (saving ++ returning) start .registers ≡ loaded
-unfolding bit isSet counterBits counts overflowsUp underflowsDown nested calledOf icrOf pcxiOf requests clearedOf wordAt wordsAt putWord putWords plusOf placedAt spotAt placedIn upperOf lowerOf roomAt takeOf foreseenOf saveAtOf saveOf loadOf returnOf stackOf enteredOf trapEntry interruptEntry interruptOf trapOf fcdOf betterOf bestBelow takes clearedAt enables permits firstOf anyFrom checkOf operationOf entryAt addressAfter lengthOf operationNumber entryFits entriesFrom tableOf recordHolds recordsFrom imageOf bodyWalk restFrom restOf instructionAt fetchOf windowHolds secondHolds apartHolds windowsVerdict stepVerdict calledThen callOf svlcxOf bisrThen bisrOf previousOf retOf rfeOf rslcxOf contextOp alignedReach reachOf storeOf actOf finishOf executeOf instructionOf oneOf requestsOf stepOf runFrom runOf runArgs
+unfolding bit isSet counterBits counts overflowsUp underflowsDown nested calledOf icrOf pcxiOf requests clearedOf wordAt wordsAt putWord putWords plusOf placedAt spotAt placedIn upperOf lowerOf roomAt takeOf foreseenOf saveAtOf saveOf loadOf returnOf stackOf enteredOf trapEntry interruptEntry fcdOf betterOf bestBelow takes clearedAt enables permits firstOf anyFrom checkOf operationOf entryAt addressAfter lengthOf operationNumber entryFits entriesFrom tableOf recordHolds recordsFrom imageOf bodyWalk restFrom restOf instructionAt fetchOf windowHolds secondHolds apartHolds windowsVerdict stepVerdict calledThen callOf svlcxOf bisrThen bisrOf previousOf retOf rfeOf rslcxOf contextOp alignedReach reachOf storeOf actOf fetchingAt beginningOf decisionOf oneOf requestsOf stepOf runFrom runOf runArgs
 restored = refl
 
 pub stored : wordAt (afterAll calls start .memory .bytes) 320 ≡ 1
-unfolding bit isSet counterBits counts overflowsUp underflowsDown nested calledOf icrOf pcxiOf requests clearedOf wordAt wordsAt putWord putWords plusOf placedAt spotAt placedIn upperOf lowerOf roomAt takeOf foreseenOf saveAtOf saveOf loadOf returnOf stackOf enteredOf trapEntry interruptEntry interruptOf trapOf fcdOf betterOf bestBelow takes clearedAt enables permits firstOf anyFrom checkOf operationOf entryAt addressAfter lengthOf operationNumber entryFits entriesFrom tableOf recordHolds recordsFrom imageOf bodyWalk restFrom restOf instructionAt fetchOf windowHolds secondHolds apartHolds windowsVerdict stepVerdict calledThen callOf svlcxOf bisrThen bisrOf previousOf retOf rfeOf rslcxOf contextOp alignedReach reachOf storeOf actOf finishOf executeOf instructionOf oneOf requestsOf stepOf runFrom runOf runArgs
+unfolding bit isSet counterBits counts overflowsUp underflowsDown nested calledOf icrOf pcxiOf requests clearedOf wordAt wordsAt putWord putWords plusOf placedAt spotAt placedIn upperOf lowerOf roomAt takeOf foreseenOf saveAtOf saveOf loadOf returnOf stackOf enteredOf trapEntry interruptEntry fcdOf betterOf bestBelow takes clearedAt enables permits firstOf anyFrom checkOf operationOf entryAt addressAfter lengthOf operationNumber entryFits entriesFrom tableOf recordHolds recordsFrom imageOf bodyWalk restFrom restOf instructionAt fetchOf windowHolds secondHolds apartHolds windowsVerdict stepVerdict calledThen callOf svlcxOf bisrThen bisrOf previousOf retOf rfeOf rslcxOf contextOp alignedReach reachOf storeOf actOf fetchingAt beginningOf decisionOf oneOf requestsOf stepOf runFrom runOf runArgs
 stored = refl

@@ -23,7 +23,7 @@ use Rattle.lists.proofs.Counts.{same?, one-other}
 use Rattle.contexts.specs.Context.{upperOf, lowerOf}
 use Rattle.contexts.specs.Save.{roomAt, takeOf, foreseenOf, saveAtOf, saveOf}
 use Rattle.contexts.specs.Restore.{loadOf, returnOf}
-use Rattle.entries.specs.Entry.{stackOf, enteredOf, trapEntry, interruptEntry, interruptOf, trapOf, fcdOf}
+use Rattle.entries.specs.Entry.{stackOf, enteredOf, trapEntry, interruptEntry, fcdOf}
 use Rattle.protection.specs.Range.{enables, permits, firstOf, anyFrom}
 use Rattle.protection.specs.Access.{checkOf}
 use Rattle.interrupts.specs.Sources.{betterOf, bestBelow, takes, clearedAt}
@@ -41,10 +41,10 @@ use Rattle.accesses.specs.Store.{storeOf}
 use Rattle.calls.specs.Saves.{calledThen, callOf, svlcxOf, bisrThen, bisrOf}
 use Rattle.calls.specs.Returns.{previousOf, retOf, rfeOf, rslcxOf}
 use Rattle.calls.specs.Instructions.{contextOp}
-use Rattle.execute.specs.Execute.{actOf, finishOf, executeOf}
-use Rattle.decisions.specs.Decision.{decisionOf}
+use Rattle.execute.specs.Execute.{actOf}
+use Rattle.decisions.specs.Decision.{decisionOf, oneOf, requestsOf}
 use Rattle.decisions.specs.Heads.{stepHeads}
-use Rattle.decisions.specs.Phases.{instructionOf, oneOf, requestsOf}
+use Rattle.decisions.specs.Beginning.{fetchingAt, beginningOf}
 use Rattle.machine.specs.Step.{stepOf}
 use Rattle.machine.specs.Run.{runFrom, runOf}
 use Rattle.series.specs.Conditions.{decisionAt, Apart, StoreApart, Quiet, AllQuiet}
@@ -82,6 +82,6 @@ still s h = record { stores = s; heads = h }
 
 -- the fifth step is refused
 pub quiet : AllQuiet (listed begun) (allArgs calls start)
-unfolding bit isSet counterBits counts overflowsUp underflowsDown nested calledOf icrOf pcxiOf requests clearedOf wordAt wordsAt putWord putWords plusOf placedAt spotAt placedIn upperOf lowerOf roomAt takeOf foreseenOf saveAtOf saveOf loadOf returnOf stackOf enteredOf trapEntry interruptEntry interruptOf trapOf fcdOf betterOf bestBelow takes clearedAt enables permits firstOf anyFrom checkOf operationOf entryAt addressAfter lengthOf operationNumber entryFits entriesFrom tableOf recordHolds recordsFrom imageOf bodyWalk restFrom restOf instructionAt fetchOf windowHolds secondHolds apartHolds windowsVerdict stepVerdict calledThen callOf svlcxOf bisrThen bisrOf previousOf retOf rfeOf rslcxOf contextOp alignedReach reachOf storeOf actOf finishOf executeOf instructionOf oneOf requestsOf stepOf runFrom runOf runArgs stepHeads decisionOf
+unfolding bit isSet counterBits counts overflowsUp underflowsDown nested calledOf icrOf pcxiOf requests clearedOf wordAt wordsAt putWord putWords plusOf placedAt spotAt placedIn upperOf lowerOf roomAt takeOf foreseenOf saveAtOf saveOf loadOf returnOf stackOf enteredOf trapEntry interruptEntry fcdOf betterOf bestBelow takes clearedAt enables permits firstOf anyFrom checkOf operationOf entryAt addressAfter lengthOf operationNumber entryFits entriesFrom tableOf recordHolds recordsFrom imageOf bodyWalk restFrom restOf instructionAt fetchOf windowHolds secondHolds apartHolds windowsVerdict stepVerdict calledThen callOf svlcxOf bisrThen bisrOf previousOf retOf rfeOf rslcxOf contextOp alignedReach reachOf storeOf actOf fetchingAt beginningOf oneOf requestsOf stepOf runFrom runOf runArgs stepHeads decisionOf
 quiet =
     (still tt refl, (still tt refl, (still away refl, (still tt refl, (tt, (still tt refl, (still tt refl, (still tt refl, (still tt refl, (still tt refl, (still tt refl, (still tt refl, tt))))))))))))
