@@ -12,6 +12,7 @@ use image::fetch::Instruction;
 use memory::address::Address;
 use operations::Load;
 use protection::range::Right;
+use registers::CORE;
 use registers::PC;
 use registers::PSW;
 use registers::guarded;
@@ -50,7 +51,7 @@ fn signed_half(h: u32) -> u32
 fn put_data(
     d: &mut [u32; 16],
     a: &mut [u32; 16],
-    core: &mut [u32; 10],
+    core: &mut [u32; CORE],
     c: usize,
     value: u32,
     next: u32,
@@ -71,7 +72,7 @@ pub fn execute_load(
     window2: &[u8],
     d: &mut [u32; 16],
     a: &mut [u32; 16],
-    core: &mut [u32; 10],
+    core: &mut [u32; CORE],
     ranges: &[u32; 96],
     op: Load,
     i: Instruction,

@@ -11,6 +11,7 @@ use memory::address::as_address;
 use protection::access::Check;
 use protection::access::check_access;
 use protection::range::Right;
+use registers::CORE;
 use registers::plus;
 ghost use mathlib.Core.Path.{_≡_};
 ghost use mathlib.Core.List.{_++_};
@@ -64,7 +65,7 @@ pub fn reach_data(
     window: &[u8],
     base2: Address,
     window2: &[u8],
-    core: &[u32; 10],
+    core: &[u32; CORE],
     ranges: &[u32; 96],
     right: Right,
     guarded: bool,

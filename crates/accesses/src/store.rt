@@ -12,6 +12,7 @@ use image::fetch::Instruction;
 use memory::address::Address;
 use operations::Store;
 use protection::range::Right;
+use registers::CORE;
 use registers::PC;
 ghost use mathlib.Core.Path.{_≡_};
 ghost use Rattle.memory.specs.Memory.{lent};
@@ -29,7 +30,7 @@ pub fn execute_store(
     window2: &mut [u8],
     d: &mut [u32; 16],
     a: &mut [u32; 16],
-    core: &mut [u32; 10],
+    core: &mut [u32; CORE],
     ranges: &[u32; 96],
     op: Store,
     i: Instruction,

@@ -2,6 +2,7 @@
 
 use events::event::Stop;
 use events::trap::Trap;
+use registers::CORE;
 use registers::ICR;
 use registers::PSW;
 use registers::SYSCON;
@@ -42,7 +43,7 @@ pub struct Control {
     pub prs: usize,
 }
 
-pub fn control_of(core: &[u32; 10]) -> Control
+pub fn control_of(core: &[u32; CORE]) -> Control
     ensures { λ r. ⌜ r ≡ controlOf (now (core .entry)) ⌝ }
 {
     Control {
@@ -53,7 +54,7 @@ pub fn control_of(core: &[u32; 10]) -> Control
 }
 
 // How an instruction that may have changed it ends, once it is done.
-pub fn settled(before: Control, core: &[u32; 10]) -> How
+pub fn settled(before: Control, core: &[u32; CORE]) -> How
     ensures { λ r. ⌜ r ≡ doneBy (isSame before (controlOf (now (core .entry)))) ⌝ }
 {
     let now = control_of(core);

@@ -11,6 +11,7 @@ use events::trap::system_call;
 use image::fetch::Instruction;
 use memory::address::Address;
 use operations::Context;
+use registers::CORE;
 use registers::PC;
 use registers::plus;
 ghost use mathlib.Core.Path.{_≡_};
@@ -21,7 +22,7 @@ ghost use Rattle.acts.specs.Acts.{did, performOf};
 ghost use Rattle.calls.specs.Instructions.{targetOf, isBisr, contextOp};
 
 // Where CALL and CALLI go.
-fn target(d: &[u32; 16], a: &[u32; 16], core: &[u32; 10], op: Context, i: Instruction) -> u32
+fn target(d: &[u32; 16], a: &[u32; 16], core: &[u32; CORE], op: Context, i: Instruction) -> u32
     requires { ⌜ FieldsHold i ⌝ }
     ensures { λ r. ⌜ r ≡ targetOf op i (registers (now (d .entry)) (now (a .entry)) (now (core .entry))) ⌝ }
 {
@@ -61,7 +62,7 @@ pub fn execute_context(
     window2: &mut [u8],
     d: &mut [u32; 16],
     a: &mut [u32; 16],
-    core: &mut [u32; 10],
+    core: &mut [u32; CORE],
     op: Context,
     i: Instruction,
 ) -> How

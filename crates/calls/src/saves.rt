@@ -11,6 +11,7 @@ use events::trap::PRIV;
 use fields::depth::called;
 use fields::depth::overflows;
 use memory::address::Address;
+use registers::CORE;
 use registers::ICR;
 use registers::PC;
 use registers::PSW;
@@ -22,7 +23,7 @@ ghost use Rattle.acts.specs.Acts.{did, performOf};
 ghost use Rattle.calls.specs.Saves.{calledThen, callOf, forbids, lowerThen, lowerSaveOf};
 
 // What a call sets after its save.
-fn set_called(d: &mut [u32; 16], a: &mut [u32; 16], core: &mut [u32; 10], to: u32, next: u32)
+fn set_called(d: &mut [u32; 16], a: &mut [u32; 16], core: &mut [u32; CORE], to: u32, next: u32)
     ensures { λ _. ⌜ registers (now (d .exit)) (now (a .exit)) (now (core .exit)) ≡ calledThen to next (registers (now (d .entry)) (now (a .entry)) (now (core .entry))) ⌝ }
 {
     a[11] = next;
@@ -38,7 +39,7 @@ pub fn call(
     window2: &mut [u8],
     d: &mut [u32; 16],
     a: &mut [u32; 16],
-    core: &mut [u32; 10],
+    core: &mut [u32; CORE],
     to: u32,
     next: u32,
 ) -> How
@@ -77,7 +78,7 @@ fn is_forbidden(bisr: bool, psw: u32) -> bool
 fn set_after(
     d: &mut [u32; 16],
     a: &mut [u32; 16],
-    core: &mut [u32; 10],
+    core: &mut [u32; CORE],
     bisr: bool,
     imm: u32,
     next: u32,
@@ -100,7 +101,7 @@ pub fn save_lower_half(
     window2: &mut [u8],
     d: &mut [u32; 16],
     a: &mut [u32; 16],
-    core: &mut [u32; 10],
+    core: &mut [u32; CORE],
     bisr: bool,
     imm: u32,
     next: u32,

@@ -1,5 +1,6 @@
 // The sixteen words of a context, in the order of Figure 3 read upward.
 
+use registers::CORE;
 use registers::PCXI;
 use registers::PSW;
 ghost use mathlib.Core.Path.{_≡_};
@@ -23,7 +24,7 @@ pub fn ul(half: Half) -> bool
 }
 
 // The upper context: PCXI, PSW, A10 to A15, D8 to D15.
-pub fn upper(d: &[u32; 16], a: &[u32; 16], core: &[u32; 10]) -> [u32; 16]
+pub fn upper(d: &[u32; 16], a: &[u32; 16], core: &[u32; CORE]) -> [u32; 16]
     ensures { λ r. ⌜ r ≡ upperOf (registers (now (d .entry)) (now (a .entry)) (now (core .entry))) ⌝ }
 {
     [
@@ -47,7 +48,7 @@ pub fn upper(d: &[u32; 16], a: &[u32; 16], core: &[u32; 10]) -> [u32; 16]
 }
 
 // The lower context: PCXI, the saved PC, A2 to A7, D0 to D7.
-pub fn lower(d: &[u32; 16], a: &[u32; 16], core: &[u32; 10], pc: u32) -> [u32; 16]
+pub fn lower(d: &[u32; 16], a: &[u32; 16], core: &[u32; CORE], pc: u32) -> [u32; 16]
     ensures { λ r. ⌜ r ≡ lowerOf pc (registers (now (d .entry)) (now (a .entry)) (now (core .entry))) ⌝ }
 {
     [

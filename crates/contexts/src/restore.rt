@@ -11,6 +11,7 @@ use fields::link::link_of;
 use memory::address::Address;
 use memory::read_words;
 use memory::word_at;
+use registers::CORE;
 use registers::FCX;
 use registers::PCXI;
 use registers::PSW;
@@ -39,7 +40,7 @@ fn load_upper(
     window2: &mut [u8],
     d: &mut [u32; 16],
     a: &mut [u32; 16],
-    core: &mut [u32; 10],
+    core: &mut [u32; CORE],
     at: Spot,
 )
     requires { ⌜ LiesIn (length (now window)) (length (now window2)) 64 at ⌝ }
@@ -67,7 +68,7 @@ fn load_lower(
     window2: &mut [u8],
     d: &mut [u32; 16],
     a: &mut [u32; 16],
-    core: &mut [u32; 10],
+    core: &mut [u32; CORE],
     at: Spot,
 )
     requires { ⌜ LiesIn (length (now window)) (length (now window2)) 64 at ⌝ }
@@ -93,7 +94,7 @@ fn load(
     window2: &mut [u8],
     d: &mut [u32; 16],
     a: &mut [u32; 16],
-    core: &mut [u32; 10],
+    core: &mut [u32; CORE],
     at: Spot,
     half: Half,
 )
@@ -116,7 +117,7 @@ pub fn restore(
     window2: &mut [u8],
     d: &mut [u32; 16],
     a: &mut [u32; 16],
-    core: &mut [u32; 10],
+    core: &mut [u32; CORE],
     half: Half,
 ) -> Returned
     ensures { λ r. ⌜ returning r (registers (now (d .exit)) (now (a .exit)) (now (core .exit))) (lent base (now (window .exit)) base2 (now (window2 .exit))) ≡ returnOf half (registers (now (d .entry)) (now (a .entry)) (now (core .entry))) (lent base (now (window .entry)) base2 (now (window2 .entry))) ⌝ }

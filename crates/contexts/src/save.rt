@@ -14,6 +14,7 @@ use events::event::Stop;
 use fields::link::Link;
 use fields::link::link_of;
 use memory::address::Address;
+use registers::CORE;
 use registers::FCX;
 use registers::ICR;
 use registers::LCX;
@@ -60,7 +61,7 @@ fn foresee(
     window: &[u8],
     base2: Address,
     window2: &[u8],
-    core: &[u32; 10],
+    core: &[u32; CORE],
     next: Link,
 ) -> Saved
     ensures { λ r. ⌜ r ≡ foreseenOf (now (core .entry)) (lent base (now (window .entry)) base2 (now (window2 .entry))) next ⌝ }
@@ -90,7 +91,7 @@ fn stops(saved: Saved) -> bool
 pub fn take(
     window: &mut [u8],
     window2: &mut [u8],
-    core: &mut [u32; 10],
+    core: &mut [u32; CORE],
     at: Spot,
     half: Half,
     words: [u32; 16],
@@ -113,7 +114,7 @@ pub fn save_upper(
     window2: &mut [u8],
     d: &[u32; 16],
     a: &[u32; 16],
-    core: &mut [u32; 10],
+    core: &mut [u32; CORE],
 ) -> Saved
     ensures { λ r. ⌜ saving r (now (core .exit)) (lent base (now (window .exit)) base2 (now (window2 .exit))) ≡ saveOf Half.Upper (upperOf (registers (now (d .entry)) (now (a .entry)) (now (core .entry)))) (now (core .entry)) (lent base (now (window .entry)) base2 (now (window2 .entry))) ⌝ }
 {
@@ -142,7 +143,7 @@ pub fn save_lower(
     window2: &mut [u8],
     d: &[u32; 16],
     a: &[u32; 16],
-    core: &mut [u32; 10],
+    core: &mut [u32; CORE],
     pc: u32,
 ) -> Saved
     ensures { λ r. ⌜ saving r (now (core .exit)) (lent base (now (window .exit)) base2 (now (window2 .exit))) ≡ saveOf Half.Lower (lowerOf pc (registers (now (d .entry)) (now (a .entry)) (now (core .entry)))) (now (core .entry)) (lent base (now (window .entry)) base2 (now (window2 .entry))) ⌝ }

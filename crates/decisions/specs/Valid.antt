@@ -3,6 +3,7 @@ use Prim.Native.Nat.{ℕ, _%_, _^_, _<_}
 use mathlib.Core.Path.{_≡_}
 use mathlib.Core.List.{List}
 use lib.ListN.{length, getD}
+use Rattle.registers.specs.Core.{CORE}
 use Rattle.registers.specs.Registers.{pc}
 use Rattle.registers.specs.declared.Registers.{Registers}
 
@@ -13,7 +14,7 @@ pub record Words (n : ℕ) (xs : List ℕ) : Type 0 where
 pub record Valid (r : Registers) : Type 0 where
   pub d : Words 16 (r .d)
   pub a : Words 16 (r .a)
-  pub core : Words 10 (r .core)
+  pub core : Words CORE (r .core)
   pub even : pc r % 2 ≡ 0
 
 pub record Bytes (bytes : List ℕ) : Type 0 where

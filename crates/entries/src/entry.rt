@@ -17,6 +17,7 @@ use events::trap::FCD;
 use events::trap::Trap;
 use fields::link::link_of;
 use memory::address::Address;
+use registers::CORE;
 use registers::FCX;
 use registers::PC;
 ghost use mathlib.Core.Path.{_≡_};
@@ -32,7 +33,7 @@ pub fn enter_fcd(
     window2: &mut [u8],
     d: &mut [u32; 16],
     a: &mut [u32; 16],
-    core: &mut [u32; 10],
+    core: &mut [u32; CORE],
 ) -> Ending
     ensures { λ r. ⌜ made r (registers (now (d .exit)) (now (a .exit)) (now (core .exit))) (lent base (now (window .exit)) base2 (now (window2 .exit))) ≡ fcdOf (registers (now (d .entry)) (now (a .entry)) (now (core .entry))) (lent base (now (window .entry)) base2 (now (window2 .entry))) ⌝ }
 {
@@ -68,7 +69,7 @@ fn event_of(cause: Cause) -> Event
     }
 }
 
-fn set_entry(d: &mut [u32; 16], a: &mut [u32; 16], core: &mut [u32; 10], cause: Cause)
+fn set_entry(d: &mut [u32; 16], a: &mut [u32; 16], core: &mut [u32; CORE], cause: Cause)
     ensures { λ _. ⌜ registers (now (d .exit)) (now (a .exit)) (now (core .exit)) ≡ causeEntry cause (registers (now (d .entry)) (now (a .entry)) (now (core .entry))) ⌝ }
 {
     match cause {
@@ -85,7 +86,7 @@ fn enter(
     window2: &mut [u8],
     d: &mut [u32; 16],
     a: &mut [u32; 16],
-    core: &mut [u32; 10],
+    core: &mut [u32; CORE],
     cause: Cause,
 ) -> Ending
     ensures { λ r. ⌜ made r (registers (now (d .exit)) (now (a .exit)) (now (core .exit))) (lent base (now (window .exit)) base2 (now (window2 .exit))) ≡ entryOf (causeEvent cause) (causeEntry cause) (registers (now (d .entry)) (now (a .entry)) (now (core .entry))) (lent base (now (window .entry)) base2 (now (window2 .entry))) ⌝ }
@@ -111,7 +112,7 @@ pub fn trap(
     window2: &mut [u8],
     d: &mut [u32; 16],
     a: &mut [u32; 16],
-    core: &mut [u32; 10],
+    core: &mut [u32; CORE],
     t: Trap,
     back: u32,
 ) -> Ending
@@ -137,7 +138,7 @@ pub fn interrupt(
     window2: &mut [u8],
     d: &mut [u32; 16],
     a: &mut [u32; 16],
-    core: &mut [u32; 10],
+    core: &mut [u32; CORE],
     source: u8,
     level: u8,
 ) -> Ending

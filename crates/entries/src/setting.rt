@@ -3,6 +3,7 @@
 use events::trap::Trap;
 use registers::BIV;
 use registers::BTV;
+use registers::CORE;
 use registers::ICR;
 use registers::ISP;
 use registers::PC;
@@ -23,7 +24,7 @@ fn stack(sp: u32, psw: u32, isp: u32) -> u32
 }
 
 // A10, A11 and PSW, of any entry.
-fn enter(d: &mut [u32; 16], a: &mut [u32; 16], core: &mut [u32; 10], back: u32)
+fn enter(d: &mut [u32; 16], a: &mut [u32; 16], core: &mut [u32; CORE], back: u32)
     ensures { λ _. ⌜ registers (now (d .exit)) (now (a .exit)) (now (core .exit)) ≡ enteredOf back (registers (now (d .entry)) (now (a .entry)) (now (core .entry))) ⌝ }
 {
     a[10] = stack(a[10], core[PSW], core[ISP]);
@@ -32,7 +33,7 @@ fn enter(d: &mut [u32; 16], a: &mut [u32; 16], core: &mut [u32; 10], back: u32)
 }
 
 // The entry of a trap, with the return address.
-pub fn enter_trap(d: &mut [u32; 16], a: &mut [u32; 16], core: &mut [u32; 10], t: Trap, back: u32)
+pub fn enter_trap(d: &mut [u32; 16], a: &mut [u32; 16], core: &mut [u32; CORE], t: Trap, back: u32)
     ensures { λ _. ⌜ registers (now (d .exit)) (now (a .exit)) (now (core .exit)) ≡ trapEntry t back (registers (now (d .entry)) (now (a .entry)) (now (core .entry))) ⌝ }
 {
     enter(d, a, core, back);
@@ -42,7 +43,7 @@ pub fn enter_trap(d: &mut [u32; 16], a: &mut [u32; 16], core: &mut [u32; 10], t:
 }
 
 // The entry of an interrupt with a priority number.
-pub fn enter_interrupt(d: &mut [u32; 16], a: &mut [u32; 16], core: &mut [u32; 10], level: u8)
+pub fn enter_interrupt(d: &mut [u32; 16], a: &mut [u32; 16], core: &mut [u32; CORE], level: u8)
     ensures { λ _. ⌜ registers (now (d .exit)) (now (a .exit)) (now (core .exit)) ≡ interruptEntry level (registers (now (d .entry)) (now (a .entry)) (now (core .entry))) ⌝ }
 {
     let pc = core[PC];

@@ -15,6 +15,7 @@ use memory::address::Address;
 use moves::execute_integer;
 use moves::execute_move;
 use operations::Operation;
+use registers::CORE;
 use registers::PC;
 use system::instructions::execute_system;
 ghost use mathlib.Core.Path.{_≡_};
@@ -60,7 +61,7 @@ fn perform(
     window2: &mut [u8],
     d: &mut [u32; 16],
     a: &mut [u32; 16],
-    core: &mut [u32; 10],
+    core: &mut [u32; CORE],
     ranges: &[u32; 96],
     i: Instruction,
 ) -> How
@@ -105,7 +106,7 @@ fn finish(
     window2: &mut [u8],
     d: &mut [u32; 16],
     a: &mut [u32; 16],
-    core: &mut [u32; 10],
+    core: &mut [u32; CORE],
     how: How,
     next: u32,
 ) -> Ending
@@ -146,7 +147,7 @@ pub fn execute_instruction(
     window2: &mut [u8],
     d: &mut [u32; 16],
     a: &mut [u32; 16],
-    core: &mut [u32; 10],
+    core: &mut [u32; CORE],
     ranges: &[u32; 96],
     i: Instruction,
 ) -> Executed

@@ -7,6 +7,7 @@ use compare::tests::less_u;
 use events::trap::GRWP;
 use image::fetch::Instruction;
 use operations::Jump;
+use registers::CORE;
 use registers::PC;
 use registers::PSW;
 use registers::guarded;
@@ -60,7 +61,7 @@ fn condition(op: Jump, x: u32, y: u32) -> bool
 fn compare_and_jump(
     d: &mut [u32; 16],
     a: &mut [u32; 16],
-    core: &mut [u32; 10],
+    core: &mut [u32; CORE],
     op: Jump,
     i: Instruction,
 ) -> How
@@ -74,7 +75,7 @@ fn compare_and_jump(
     How::Done
 }
 
-fn execute_loop(d: &mut [u32; 16], a: &mut [u32; 16], core: &mut [u32; 10], i: Instruction) -> How
+fn execute_loop(d: &mut [u32; 16], a: &mut [u32; 16], core: &mut [u32; CORE], i: Instruction) -> How
     requires { ⌜ FieldsHold i ⌝ }
     ensures { λ r. ⌜ ended r (registers (now (d .exit)) (now (a .exit)) (now (core .exit))) ≡ endedOf (loopOf i (registers (now (d .entry)) (now (a .entry)) (now (core .entry)))) (registers (now (d .entry)) (now (a .entry)) (now (core .entry))) ⌝ }
 {
@@ -92,7 +93,7 @@ fn execute_loop(d: &mut [u32; 16], a: &mut [u32; 16], core: &mut [u32; 10], i: I
 pub fn execute_jump(
     d: &mut [u32; 16],
     a: &mut [u32; 16],
-    core: &mut [u32; 10],
+    core: &mut [u32; CORE],
     op: Jump,
     i: Instruction,
 ) -> How

@@ -5,6 +5,7 @@ use crate::run_steps::run_steps;
 use image::marks::Guide;
 use image::marks::mark_image;
 use memory::address::Address;
+use registers::CORE;
 ghost use mathlib.Core.Path.{_≡_};
 ghost use mathlib.Core.Bool.{true};
 ghost use Rattle.memory.specs.Memory.{lent};
@@ -29,7 +30,7 @@ fn run_marked(
     image: &[u8],
     d: &mut [u32; 16],
     a: &mut [u32; 16],
-    core: &mut [u32; 10],
+    core: &mut [u32; CORE],
     requests: &mut [u32; 16],
     words: &[u32; 96],
     n: u32,
@@ -69,7 +70,7 @@ pub fn run_guided(
     long: bool,
     d: &mut [u32; 16],
     a: &mut [u32; 16],
-    core: &mut [u32; 10],
+    core: &mut [u32; CORE],
     requests: &mut [u32; 16],
     words: &[u32; 96],
     n: u32,

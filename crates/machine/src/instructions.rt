@@ -10,6 +10,7 @@ use image::fetch::next_after;
 use image::fetch::read_record;
 use image::marks::Guide;
 use memory::address::Address;
+use registers::CORE;
 use registers::PC;
 use spans::Ahead;
 use spans::Span;
@@ -41,7 +42,7 @@ fn steady_steps(
     marks: &[u64],
     d: &mut [u32; 16],
     a: &mut [u32; 16],
-    core: &mut [u32; 10],
+    core: &mut [u32; CORE],
     words: &[u32; 96],
     s: Span,
     n: u32,
@@ -127,7 +128,7 @@ pub fn instructions(
     marks: &[u64],
     d: &mut [u32; 16],
     a: &mut [u32; 16],
-    core: &mut [u32; 10],
+    core: &mut [u32; CORE],
     words: &[u32; 96],
     n: u32,
 ) -> Paced

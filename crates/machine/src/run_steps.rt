@@ -11,6 +11,7 @@ use interrupts::best_source;
 use interrupts::clear;
 use interrupts::taken;
 use memory::address::Address;
+use registers::CORE;
 use registers::ICR;
 ghost use mathlib.Core.Path.{_≡_};
 ghost use Rattle.memory.specs.Memory.{lent};
@@ -55,7 +56,7 @@ fn run_by_reference(
     marks: &[u64],
     d: &mut [u32; 16],
     a: &mut [u32; 16],
-    core: &mut [u32; 10],
+    core: &mut [u32; CORE],
     requests: &mut [u32; 16],
     words: &[u32; 96],
     n: u32,
@@ -133,7 +134,7 @@ pub fn run_steps(
     marks: &[u64],
     d: &mut [u32; 16],
     a: &mut [u32; 16],
-    core: &mut [u32; 10],
+    core: &mut [u32; CORE],
     requests: &mut [u32; 16],
     words: &[u32; 96],
     n: u32,

@@ -6,6 +6,7 @@ use image::fetch::Instruction;
 use integer::Integer;
 use integer::compute;
 use operations::Move;
+use registers::CORE;
 use registers::PC;
 use registers::PSW;
 use registers::guarded;
@@ -23,7 +24,7 @@ ghost use Rattle.moves.specs.Moves.{integerOf, addressWrite, moveOf};
 pub fn execute_integer(
     d: &mut [u32; 16],
     a: &mut [u32; 16],
-    core: &mut [u32; 10],
+    core: &mut [u32; CORE],
     op: Integer,
     i: Instruction,
 )
@@ -42,7 +43,7 @@ pub fn execute_integer(
 fn write_address(
     d: &mut [u32; 16],
     a: &mut [u32; 16],
-    core: &mut [u32; 10],
+    core: &mut [u32; CORE],
     c: usize,
     value: u32,
     next: u32,
@@ -62,7 +63,7 @@ fn write_address(
 pub fn execute_move(
     d: &mut [u32; 16],
     a: &mut [u32; 16],
-    core: &mut [u32; 10],
+    core: &mut [u32; CORE],
     op: Move,
     i: Instruction,
 ) -> How

@@ -18,6 +18,7 @@ use protection::access::check_access;
 use protection::range::Permit;
 use protection::range::Right;
 use protection::range::search;
+use registers::CORE;
 use registers::ICR;
 use registers::PC;
 use registers::PSW;
@@ -43,7 +44,7 @@ pub struct Permits {
 }
 
 // The lowest range that permits the access, where the ranges are asked and one does.
-fn permit_for(core: &[u32; 10], words: &[u32; 96], right: Right, address: Address) -> Permit
+fn permit_for(core: &[u32; CORE], words: &[u32; 96], right: Right, address: Address) -> Permit
     ensures { λ r. ⌜ r ≡ permitOf (now (core .entry)) (rangesIn (now (words .entry))) (access right address) ⌝ }
 {
     if 0xE000_0000 <= address.0 {
@@ -64,7 +65,7 @@ fn permit_for(core: &[u32; 10], words: &[u32; 96], right: Right, address: Addres
 fn permit_record(
     image: &[u8],
     a: &[u32; 16],
-    core: &[u32; 10],
+    core: &[u32; CORE],
     words: &[u32; 96],
     at: usize,
     pc: u32,
@@ -98,7 +99,7 @@ fn permit_data(
     image: &[u8],
     long: bool,
     a: &[u32; 16],
-    core: &[u32; 10],
+    core: &[u32; CORE],
     words: &[u32; 96],
 ) -> Permit
     requires { ⌜ ImageHolds (now image) × (long ≡ true → longOnly (now image) ≡ true) ⌝ }
@@ -122,7 +123,7 @@ pub fn permits_of(
     image: &[u8],
     long: bool,
     a: &[u32; 16],
-    core: &[u32; 10],
+    core: &[u32; CORE],
     requests: &[u32; 16],
     words: &[u32; 96],
 ) -> Permits

@@ -9,6 +9,7 @@ use events::trap::MPW;
 use events::trap::MPX;
 use events::trap::Trap;
 use memory::address::Address;
+use registers::CORE;
 use registers::PSW;
 use registers::SYSCON;
 ghost use mathlib.Core.Path.{_≡_};
@@ -32,7 +33,7 @@ fn denied(right: Right) -> Trap
 }
 
 // Checks the access to an address.
-pub fn check_access(core: &[u32; 10], words: &[u32; 96], right: Right, address: Address) -> Check
+pub fn check_access(core: &[u32; CORE], words: &[u32; 96], right: Right, address: Address) -> Check
     ensures { λ r. ⌜ r ≡ checkOf (now (core .entry)) (rangesIn (now (words .entry))) right address ⌝ }
 {
     if 0xE000_0000 <= address.0 {

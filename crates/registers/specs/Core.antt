@@ -2,6 +2,10 @@
 use Prim.Native.Nat.{ℕ}
 use mathlib.Core.List.{List, [], _∷_}
 
+-- how many words `core` has
+abbrev pub CORE : ℕ
+CORE = 10
+
 abbrev pub PC : ℕ
 PC = 0
 

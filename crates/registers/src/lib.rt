@@ -5,11 +5,14 @@ ghost use Prim.Native.Nat.{_≤_};
 ghost use Rattle.registers.specs.Core.{places};
 ghost use Rattle.registers.specs.Registers.{secondOf, plusOf, minusOf, even, isGlobal, guards};
 
-// D0 to D15, A0 to A15, and the ten core registers under the indices below.
+// How many words of the state stand with the core registers.
+pub const CORE: usize = 10;
+
+// D0 to D15, A0 to A15, and the core registers under the indices below.
 pub struct Registers {
     pub d: [u32; 16],
     pub a: [u32; 16],
-    pub core: [u32; 10],
+    pub core: [u32; CORE],
 }
 
 pub const PC: usize = 0;
@@ -33,7 +36,7 @@ pub const BTV: usize = 8;
 pub const SYSCON: usize = 9;
 
 // The places above. A constant has no contract of its own: this one holds each to its definition.
-pub fn core_places() -> [usize; 10]
+pub fn core_places() -> [usize; CORE]
     ensures { λ r. ⌜ r ≡ places ⌝ }
 {
     [PC, PSW, PCXI, FCX, LCX, ICR, ISP, BIV, BTV, SYSCON]

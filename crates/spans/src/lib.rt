@@ -16,6 +16,7 @@ use protection::access::check_access;
 use protection::range::Permit;
 use protection::range::Right;
 use protection::range::search;
+use registers::CORE;
 use registers::PC;
 use registers::PSW;
 use registers::SYSCON;
@@ -56,7 +57,7 @@ fn records_below(upper: u32, pc: u32) -> u32
 }
 
 // Of so many records from pc on, how many protection lets be fetched, where it lets the first.
-fn fetchable(core: &[u32; 10], words: &[u32; 96], pc: u32, records: u32) -> u32
+fn fetchable(core: &[u32; CORE], words: &[u32; 96], pc: u32, records: u32) -> u32
     requires { ⌜ (checkOf (now core) (rangesIn (now words)) Right.Execute (asAddress pc) ≡ Passes) × (0 < records) ⌝ }
     ensures { λ r. ⌜ r ≡ fetchableOf (now (core .entry)) (rangesIn (now (words .entry))) pc records ⌝ }
 {
@@ -130,7 +131,7 @@ pub fn look_ahead(
     image: &[u8],
     guide: Guide,
     marks: &[u64],
-    core: &[u32; 10],
+    core: &[u32; CORE],
     words: &[u32; 96],
 ) -> Ahead
     requires { ⌜ ImageHolds (now image) × Guides (now image) guide (now marks) ⌝ }

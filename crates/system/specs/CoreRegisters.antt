@@ -4,7 +4,7 @@ use mathlib.Core.Bool.{cond}
 use mathlib.Core.List.{List, [], _∷_}
 use lib.ListN.{getD, set}
 use lib.Dec.{eqb}
-use Rattle.registers.specs.Core.{PC, PSW, PCXI, FCX, LCX, ICR, ISP, BIV, BTV, SYSCON}
+use Rattle.registers.specs.Core.{CORE, PC, PSW, PCXI, FCX, LCX, ICR, ISP, BIV, BTV, SYSCON}
 use Rattle.system.specs.declared.core_registers.Named.{Named}
 use Rattle.system.specs.declared.core_registers.Named.the-variants.{Pc, Register, Nothing}
 
@@ -40,7 +40,7 @@ namedOf offset = lookup offsets offset
 -- an index is one of the ten
 abbrev pub Known : Named → Type 0
 Known Pc = Unit {0}
-Known (Register k) = k < 10
+Known (Register k) = k < CORE
 Known Nothing = Unit {0}
 
 abbrev pub readBy : List ℕ → Named → ℕ

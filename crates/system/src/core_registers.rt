@@ -2,6 +2,7 @@
 
 use registers::BIV;
 use registers::BTV;
+use registers::CORE;
 use registers::FCX;
 use registers::ICR;
 use registers::ISP;
@@ -39,7 +40,7 @@ fn named_at(offset: u32) -> Named
 }
 
 // The core register at an offset; 0 where there is none.
-pub fn read_core(core: &[u32; 10], offset: u32) -> u32
+pub fn read_core(core: &[u32; CORE], offset: u32) -> u32
     ensures { λ r. ⌜ r ≡ readOf (now (core .entry)) offset ⌝ }
 {
     match named_at(offset) {
@@ -50,7 +51,7 @@ pub fn read_core(core: &[u32; 10], offset: u32) -> u32
 }
 
 // Writes the core register at an offset; PC is read only.
-pub fn write_core(core: &mut [u32; 10], offset: u32, value: u32)
+pub fn write_core(core: &mut [u32; CORE], offset: u32, value: u32)
     ensures { λ _. ⌜ now (core .exit) ≡ writtenOf (now (core .entry)) offset value ⌝ }
 {
     match named_at(offset) {

@@ -11,6 +11,7 @@ use events::trap::SOVF;
 use fields::psw;
 use image::fetch::Instruction;
 use operations::System;
+use registers::CORE;
 use registers::ICR;
 use registers::PC;
 use registers::PSW;
@@ -24,7 +25,7 @@ ghost use Rattle.system.specs.Instructions.{enableOf, systemOf};
 fn set_enable(
     d: &mut [u32; 16],
     a: &mut [u32; 16],
-    core: &mut [u32; 10],
+    core: &mut [u32; CORE],
     ie: bool,
     next: u32,
 ) -> How
@@ -42,7 +43,7 @@ fn set_enable(
 pub fn execute_system(
     d: &mut [u32; 16],
     a: &mut [u32; 16],
-    core: &mut [u32; 10],
+    core: &mut [u32; CORE],
     op: System,
     i: Instruction,
 ) -> How
