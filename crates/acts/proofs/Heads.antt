@@ -17,7 +17,7 @@ use Rattle.areas.specs.declared.link.Place.the-variants as place
 use Rattle.registers.specs.Registers.{registers, pcxi}
 use Rattle.registers.specs.declared.Registers.{Registers}
 use Rattle.contexts.specs.Save.{Saving, roomOf, takeOf, foreseenOf, saving, savedBy, saveAtOf, saveBy, saveOf}
-use Rattle.contexts.specs.Restore.{Returning, loadOf, returning, returnBy, returnOf}
+use Rattle.contexts.specs.Restore.{Returning, loadedOf, returning, returnBy, returnOf}
 use Rattle.contexts.specs.declared.context.Half.{Half}
 use Rattle.contexts.specs.declared.context.Half.the-variants.{Lower}
 use Rattle.contexts.specs.declared.save.Room.{Room}
@@ -56,8 +56,8 @@ save-steady half words {core} {r} m {n} {s} e = record { same = rw (ap (λ (v : 
 
 -- ---- a return
 module _ (r : Registers) (m : Memory) (k : ℕ) (n2 : k ≡ 2 → ⊥) (n3 : k ≡ 3 → ⊥) where
-  load-lower : (at : ℕ) → getD (loadOf Lower at r (m .bytes) .registers .core) k 0 ≡ getD (r .core) k 0
-  unfolding loadOf
+  load-lower : (at : ℕ) → getD (loadedOf Lower at r (m .bytes) .registers .core) k 0 ≡ getD (r .core) k 0
+  unfolding loadedOf
   load-lower at = rw (getD-set-other {A = ℕ} _ 3 k _ 0 n3, getD-set-other {A = ℕ} _ 2 k _ 0 n2)
 
   lower-other : getD (returnOf Lower r m .registers .core) k 0 ≡ getD (r .core) k 0

@@ -3,7 +3,7 @@
 use mathlib.Core.Path.{refl}
 use Rattle.memory.specs.Word.{wordAt}
 use Rattle.areas.specs.Place.{placedAt, spotAt, placedIn}
-use Rattle.lists.specs.Walk.{walkOf, listsOf}
+use Rattle.lists.specs.Walk.{listWalk, listsOf}
 use Rattle.operations.specs.Forms.{operationNumber}
 use Rattle.image.specs.Lengths.{lengthOf, addressAfter}
 use Rattle.image.specs.Table.{entryAt, entryFits, entriesFrom, tableOf}
@@ -12,5 +12,5 @@ use Rattle.inputs.specs.Checks.{windowHolds, secondHolds, apartHolds, windowsVe
 use Rattle.bench.specs.Accepted.{PoolAccepted}
 
 pub pool-accepted : PoolAccepted
-unfolding wordAt placedAt spotAt placedIn walkOf listsOf entryAt addressAfter lengthOf operationNumber entryFits entriesFrom tableOf recordHolds recordsFrom imageOf windowHolds secondHolds apartHolds windowsVerdict stepVerdict startVerdict
+unfolding wordAt placedAt spotAt placedIn listWalk listsOf entryAt addressAfter lengthOf operationNumber entryFits entriesFrom tableOf recordHolds recordsFrom imageOf windowHolds secondHolds apartHolds windowsVerdict stepVerdict startVerdict
 pool-accepted = refl

@@ -3,7 +3,7 @@
 use mathlib.Core.Path.{refl}
 use native.Mathlib.Nat.{div-eq-of-lt}
 use Rattle.words.specs.Bits.{bit}
-use Rattle.words.specs.Value.{signed, low, within, clamp, count}
+use Rattle.words.specs.Value.{signed, low, within, clamp, shiftCount}
 use Rattle.words.specs.Result.{advance, wrappedOf, carriedOf, saturatedOf}
 use Rattle.arithmetic.specs.Arithmetic.{addOf, addsOf, absOf, mulOf}
 use Rattle.bitwise.specs.Shift.{shaLeft, shaRight, shaOf, shOf}
@@ -15,7 +15,7 @@ use Rattle.interrupts.specs.Sources.{takes}
 use Rattle.bench.specs.Starred.{IntegerValues, RangeValues, InterruptValues, Starred}
 
 integer-values : IntegerValues
-unfolding bit signed low within clamp count advance wrappedOf carriedOf saturatedOf addOf addsOf absOf mulOf shaLeft shaRight shaOf shOf run clsOf clzOf lessSigned
+unfolding bit signed low within clamp shiftCount advance wrappedOf carriedOf saturatedOf addOf addsOf absOf mulOf shaLeft shaRight shaOf shOf run clsOf clzOf lessSigned
 integer-values =
     record {
       add = refl;

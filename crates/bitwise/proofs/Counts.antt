@@ -9,7 +9,7 @@ use lib.Dec.{lit<}
 use lib.Pow.{shl-exact, pow-mono, pow-pos}
 use lib.IntN.{pos, natAbs}
 use lib.Signed.{ltZ}
-use Rattle.words.specs.Value.{count}
+use Rattle.words.specs.Value.{shiftCount}
 use Rattle.bitwise.specs.Shift.{shOf, shaOf, shaLeft, shaRight}
 
 pub one-left : (n : ℕ) → n ≤ 32 → 1 * 2 ^ n % 2 ^ 64 ≡ 2 ^ n
@@ -22,19 +22,19 @@ pub one-left-pos : (n : ℕ) → n ≤ 32 → 0 < 1 * 2 ^ n % 2 ^ 64
 one-left-pos n h = rw (one-left n h) (pow-pos n)
 
 -- the two ways of a count's sign
-module _ (a b n : ℕ) (e : n ≡ natAbs (count b)) where
-  pub sh-right : ltZ (count b) (pos 0) ≡ true → a / 2 ^ n ≡ shOf a b
+module _ (a b n : ℕ) (e : n ≡ natAbs (shiftCount b)) where
+  pub sh-right : ltZ (shiftCount b) (pos 0) ≡ true → a / 2 ^ n ≡ shOf a b
   unfolding shOf
   sh-right t = rw (t, e)
 
-  pub sh-left : ltZ (count b) (pos 0) ≡ false → a * 2 ^ n % 2 ^ 32 ≡ shOf a b
+  pub sh-left : ltZ (shiftCount b) (pos 0) ≡ false → a * 2 ^ n % 2 ^ 32 ≡ shOf a b
   unfolding shOf
   sh-left t = rw (t, e)
 
-  pub sha-right : ltZ (count b) (pos 0) ≡ true → shaRight a n ≡ shaOf a b
+  pub sha-right : ltZ (shiftCount b) (pos 0) ≡ true → shaRight a n ≡ shaOf a b
   unfolding shaOf
   sha-right t = rw (t, e)
 
-  pub sha-left : ltZ (count b) (pos 0) ≡ false → shaLeft a n ≡ shaOf a b
+  pub sha-left : ltZ (shiftCount b) (pos 0) ≡ false → shaLeft a n ≡ shaOf a b
   unfolding shaOf
   sha-left t = rw (t, e)

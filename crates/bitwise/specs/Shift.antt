@@ -4,13 +4,13 @@ use lib.IntN.{pos, natAbs, _*ℤ_}
 use lib.Signed.{ltZ, shrZ}
 use lib.Dec.{ltb}
 use mathlib.Core.Bool.{cond}
-use Rattle.words.specs.Value.{signed, count}
+use Rattle.words.specs.Value.{signed, shiftCount}
 use Rattle.words.specs.Result.{carriedOf}
 use Rattle.words.specs.declared.result.Carried.{Carried}
 
 -- SH: to the right where the count is below 0, else to the left; the vacated bits are zeros
 unfoldable pub shOf : ℕ → ℕ → ℕ
-shOf a b = cond (ltZ (count b) (pos 0)) (a / 2 ^ natAbs (count b)) (a * 2 ^ natAbs (count b) % 0x1_0000_0000)
+shOf a b = cond (ltZ (shiftCount b) (pos 0)) (a / 2 ^ natAbs (shiftCount b)) (a * 2 ^ natAbs (shiftCount b) % 0x1_0000_0000)
 
 -- SHA to the left by n: D[a] times 2 ^ n. C: a one was shifted out at the top
 unfoldable pub shaLeft : ℕ → ℕ → Carried
@@ -22,4 +22,4 @@ shaRight a n = carriedOf (ltb 0 (a % 2 ^ n)) (shrZ (signed a) (2 ^ n))
 
 -- SHA: to the right where the count is below 0, else to the left
 unfoldable pub shaOf : ℕ → ℕ → Carried
-shaOf a b = cond (ltZ (count b) (pos 0)) (shaRight a (natAbs (count b))) (shaLeft a (natAbs (count b)))
+shaOf a b = cond (ltZ (shiftCount b) (pos 0)) (shaRight a (natAbs (shiftCount b))) (shaLeft a (natAbs (shiftCount b)))

@@ -10,7 +10,7 @@ use lib.IntN.{pos, natAbs, _+ℤ_, _-ℤ_, _*ℤ_}
 use lib.Pow.{shr-le}
 use lib.Signed.{ltZ, shrZ}
 use Rattle.words.specs.Bits.{number, complement, bit}
-use Rattle.words.specs.Value.{signed, count, least, largest, largestUnsigned}
+use Rattle.words.specs.Value.{signed, shiftCount, least, largest, largestUnsigned}
 use Rattle.fields.specs.Psw.{PSW·C}
 use Rattle.arithmetic.specs.Arithmetic.{addOf, subOf, rsubOf, addxOf, addcOf, subxOf, subcOf, addsOf, addsuOf, subsOf, subsuOf, mulOf, absOf, absdifOf}
 use Rattle.bitwise.specs.Shift.{shOf, shaOf, shaLeft, shaRight}
@@ -49,7 +49,7 @@ cls-le a = run-le 31 (bit 31 a) a
 pub sh-word : (a b : ℕ) → a < 2 ^ 32 → shOf a b < 2 ^ 32
 unfolding shOf
 sh-word a b h =
-    cond-word (ltZ (count b) (pos 0)) (a / 2 ^ natAbs (count b)) (a * 2 ^ natAbs (count b) % 2 ^ 32) (lt-of-le-of-lt (shr-le a (natAbs (count b))) h) (omega arith)
+    cond-word (ltZ (shiftCount b) (pos 0)) (a / 2 ^ natAbs (shiftCount b)) (a * 2 ^ natAbs (shiftCount b) % 2 ^ 32) (lt-of-le-of-lt (shr-le a (natAbs (shiftCount b))) h) (omega arith)
 
 sha-either : (t : Bool) (a n : ℕ) → cond t (shaRight a n) (shaLeft a n) .word < 2 ^ 32
 unfolding shaRight shaLeft
@@ -58,7 +58,7 @@ sha-either false a n = carried-word (ltb 0 (a / 2 ^ (32 - n))) (signed a *ℤ po
 
 pub sha-word : (a b : ℕ) → shaOf a b .word < 2 ^ 32
 unfolding shaOf
-sha-word a b = sha-either (ltZ (count b) (pos 0)) a (natAbs (count b))
+sha-word a b = sha-either (ltZ (shiftCount b) (pos 0)) a (natAbs (shiftCount b))
 
 pub compute-word : (op : Integer) (a b psw : ℕ) → a < 2 ^ 32 → b < 2 ^ 32 → computeOf op a b psw .word < 2 ^ 32
 unfolding computeOf addOf subOf rsubOf addxOf addcOf subxOf subcOf addsOf addsuOf subsOf subsuOf mulOf absOf absdifOf

@@ -7,7 +7,7 @@ use Rattle.fields.specs.Pcxi.{PCXI·PCPN, PCXI·PIE, PCXI·UL}
 use Rattle.fields.specs.Depth.{underflowsDown, nested}
 use Rattle.fields.specs.Icr.{icrOf}
 use Rattle.fields.specs.Link.{linkOf}
-use Rattle.registers.specs.Registers.{A, psw, pcxi, icr, withPc, withIcr, even}
+use Rattle.registers.specs.Registers.{A, psw, pcxi, icr, withPc, withIcr, newPc}
 use Rattle.registers.specs.declared.Registers.{Registers}
 use Rattle.events.specs.Traps.{CDU, CSU, CTYP, NEST}
 use Rattle.contexts.specs.declared.context.Half.{Half}
@@ -34,11 +34,11 @@ ifThere act There = act
 unfoldable pub retOf : Registers → Act
 retOf r =
     cond (underflowsDown (psw r)) (Ends (acts.Traps CDU))
-    (ifThere (Return Upper (withPc (even (A r 11)))) (previousOf Upper (pcxi r)))
+    (ifThere (Return Upper (withPc (newPc (A r 11)))) (previousOf Upper (pcxi r)))
 
 -- RFE also sets IE, CCPN from PIE, PCPN as they were before the load
 abbrev pub rfeThen : Registers → Registers → Registers
-rfeThen r q = withPc (even (A r 11)) (withIcr (icrOf (icr r) (PCXI·PIE (pcxi r)) (PCXI·PCPN (pcxi r))) q)
+rfeThen r q = withPc (newPc (A r 11)) (withIcr (icrOf (icr r) (PCXI·PIE (pcxi r)) (PCXI·PCPN (pcxi r))) q)
 
 -- 3/7 with CDE 1 and count above 0
 unfoldable pub rfeOf : Registers → Act

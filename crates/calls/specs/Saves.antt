@@ -4,7 +4,7 @@ use mathlib.Core.Bool.{Bool, true, false, cond}
 use Rattle.fields.specs.Psw.{isSupervisor}
 use Rattle.fields.specs.Depth.{overflowsUp, calledOf}
 use Rattle.fields.specs.Icr.{icrOf}
-use Rattle.registers.specs.Registers.{psw, icr, withA, withPc, withPsw, withIcr, even}
+use Rattle.registers.specs.Registers.{psw, icr, withA, withPc, withPsw, withIcr, newPc}
 use Rattle.registers.specs.declared.Registers.{Registers}
 use Rattle.events.specs.Traps.{CDO, PRIV}
 use Rattle.contexts.specs.declared.context.Half.the-variants.{Upper, Lower}
@@ -12,7 +12,7 @@ use Rattle.acts.specs.Acts.{Act, Ends, Traps, Save}
 
 -- CDC goes up if CDE is 1, CDE becomes 1, A11 = PC + 4, and PC is the call's target
 unfoldable pub calledThen : ℕ → ℕ → Registers → Registers
-calledThen to next r = withPc (even to) (withPsw (calledOf (psw r)) (withA 11 next r))
+calledThen to next r = withPc (newPc to) (withPsw (calledOf (psw r)) (withA 11 next r))
 
 -- a call is an upper save; the save finds PSW as it was. 3/2 where CDC would overflow. The saved PC is of no use in an upper save
 unfoldable pub callOf : ℕ → ℕ → Registers → Act

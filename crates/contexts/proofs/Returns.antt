@@ -15,7 +15,7 @@ use Rattle.areas.specs.declared.link.Place.the-variants as place
 use Rattle.areas.proofs.Parts.{area-placed, area-64}
 use Rattle.registers.specs.Registers.{pcxi}
 use Rattle.registers.specs.declared.Registers.{Registers}
-use Rattle.contexts.specs.Restore.{Loaded, loaded, loadOf, returning, returnOf}
+use Rattle.contexts.specs.Restore.{Loaded, loaded, loadedOf, returning, returnOf}
 use Rattle.contexts.specs.declared.context.Half.{Half}
 use Rattle.contexts.specs.declared.restore.Returned.the-variants.{Done}
 
@@ -28,8 +28,8 @@ module _ (m : Memory) (l k : Link) (at : ℕ) (bytes : List ℕ) (is : bytes ≡
   read-64 = ap length (is ∙ ap (areaOf m) e) ∙ area-64 m l at p
 
 pub return-made : (half : Half) (r : Registers) (s t : List ℕ) (b c : Address) (at : ℕ) (x : Spot) → placeOf (lent b s c t) (linkOf (pcxi r)) ≡ place.At at → offset (length s) x ≡ at
-    → (q : Registers) (bytes′ : List ℕ) (k : ℕ) → loaded q bytes′ ≡ loadOf half (offset (length s) x) r (s ++ t) → k ≡ length s
+    → (q : Registers) (bytes′ : List ℕ) (k : ℕ) → loaded q bytes′ ≡ loadedOf half (offset (length s) x) r (s ++ t) → k ≡ length s
     → returning Done q (memory (windows b k c) bytes′) ≡ returnOf half r (lent b s c t)
 unfolding returnOf
 return-made half r s t b c at x p o q bytes′ k e h =
-    rw p (ap₂ (λ (j : ℕ) (z : Loaded). returning Done (z .registers) (memory (windows b j c) (z .bytes))) h (e ∙ ap (λ (i : ℕ). loadOf half i r (s ++ t)) o))
+    rw p (ap₂ (λ (j : ℕ) (z : Loaded). returning Done (z .registers) (memory (windows b j c) (z .bytes))) h (e ∙ ap (λ (i : ℕ). loadedOf half i r (s ++ t)) o))

@@ -31,8 +31,8 @@ abbrev pub loaded : Registers → List ℕ → Loaded
 loaded r bytes = record { registers = r; bytes = bytes }
 
 -- the half and all of PCXI are loaded, the area's link becomes FCX (bits 31:20 being 0), and FCX goes over the area's first word
-unfoldable pub loadOf : Half → ℕ → Registers → List ℕ → Loaded
-loadOf half at r bytes =
+unfoldable pub loadedOf : Half → ℕ → Registers → List ℕ → Loaded
+loadedOf half at r bytes =
     let area = areaAt bytes at in
     loaded (withFcx (linkOf (pcxi r) .0) (withPcxi (wordAt area 0) (halfOf half area r))) (putWord bytes at (fcx r))
 
@@ -50,7 +50,7 @@ loading w l = returning Done (l .registers) (memory w (l .bytes))
 
 abbrev pub returnBy : Half → Registers → Memory → Place → Returning
 returnBy half r m place.Outside = returning Outside r m
-returnBy half r m (place.At at) = loading (m .windows) (loadOf half at r (m .bytes))
+returnBy half r m (place.At at) = loading (m .windows) (loadedOf half at r (m .bytes))
 
 -- a return to a half. An area that neither window has leaves all as it was
 unfoldable pub returnOf : Half → Registers → Memory → Returning

@@ -24,7 +24,7 @@ ghost use Rattle.areas.specs.Place.{placeOf, LiesIn, offset};
 ghost use Rattle.areas.specs.declared.link.Place.the-variants as place;
 ghost use Rattle.registers.specs.Core.{PCXI};
 ghost use Rattle.registers.specs.Registers.{registers};
-ghost use Rattle.contexts.specs.Restore.{loaded, loadOf, returning, returnOf};
+ghost use Rattle.contexts.specs.Restore.{loaded, loadedOf, returning, returnOf};
 
 pub enum Returned {
     Done,
@@ -45,7 +45,7 @@ fn load_upper(
 )
     requires { ⌜ LiesIn (length (now window)) (length (now window2)) 64 at ⌝ }
     requires { ⌜ placeOf (lent base (now window) base2 (now window2)) (linkOf (getD (now core) PCXI 0)) ≡ place.At (offset (length (now window)) at) ⌝ }
-    ensures { λ _. ⌜ loaded (registers (now (d .exit)) (now (a .exit)) (now (core .exit))) (now (window .exit) ++ now (window2 .exit)) ≡ loadOf Half.Upper (offset (length (now (window .entry))) at) (registers (now (d .entry)) (now (a .entry)) (now (core .entry))) (now (window .entry) ++ now (window2 .entry)) ⌝ }
+    ensures { λ _. ⌜ loaded (registers (now (d .exit)) (now (a .exit)) (now (core .exit))) (now (window .exit) ++ now (window2 .exit)) ≡ loadedOf Half.Upper (offset (length (now (window .entry))) at) (registers (now (d .entry)) (now (a .entry)) (now (core .entry))) (now (window .entry) ++ now (window2 .entry)) ⌝ }
     ensures { λ _. ⌜ length (now (window .exit)) ≡ length (now (window .entry)) ⌝ }
 {
     let l = link_of(core[PCXI]);
@@ -73,7 +73,7 @@ fn load_lower(
 )
     requires { ⌜ LiesIn (length (now window)) (length (now window2)) 64 at ⌝ }
     requires { ⌜ placeOf (lent base (now window) base2 (now window2)) (linkOf (getD (now core) PCXI 0)) ≡ place.At (offset (length (now window)) at) ⌝ }
-    ensures { λ _. ⌜ loaded (registers (now (d .exit)) (now (a .exit)) (now (core .exit))) (now (window .exit) ++ now (window2 .exit)) ≡ loadOf Half.Lower (offset (length (now (window .entry))) at) (registers (now (d .entry)) (now (a .entry)) (now (core .entry))) (now (window .entry) ++ now (window2 .entry)) ⌝ }
+    ensures { λ _. ⌜ loaded (registers (now (d .exit)) (now (a .exit)) (now (core .exit))) (now (window .exit) ++ now (window2 .exit)) ≡ loadedOf Half.Lower (offset (length (now (window .entry))) at) (registers (now (d .entry)) (now (a .entry)) (now (core .entry))) (now (window .entry) ++ now (window2 .entry)) ⌝ }
     ensures { λ _. ⌜ length (now (window .exit)) ≡ length (now (window .entry)) ⌝ }
 {
     let l = link_of(core[PCXI]);
@@ -100,7 +100,7 @@ fn load(
 )
     requires { ⌜ LiesIn (length (now window)) (length (now window2)) 64 at ⌝ }
     requires { ⌜ placeOf (lent base (now window) base2 (now window2)) (linkOf (getD (now core) PCXI 0)) ≡ place.At (offset (length (now window)) at) ⌝ }
-    ensures { λ _. ⌜ loaded (registers (now (d .exit)) (now (a .exit)) (now (core .exit))) (now (window .exit) ++ now (window2 .exit)) ≡ loadOf half (offset (length (now (window .entry))) at) (registers (now (d .entry)) (now (a .entry)) (now (core .entry))) (now (window .entry) ++ now (window2 .entry)) ⌝ }
+    ensures { λ _. ⌜ loaded (registers (now (d .exit)) (now (a .exit)) (now (core .exit))) (now (window .exit) ++ now (window2 .exit)) ≡ loadedOf half (offset (length (now (window .entry))) at) (registers (now (d .entry)) (now (a .entry)) (now (core .entry))) (now (window .entry) ++ now (window2 .entry)) ⌝ }
     ensures { λ _. ⌜ length (now (window .exit)) ≡ length (now (window .entry)) ⌝ }
 {
     match half {

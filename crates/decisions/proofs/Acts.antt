@@ -19,7 +19,7 @@ use Rattle.operations.specs.declared.Store.the-variants.{StB, StH, StW, StA}
 use Rattle.operations.specs.declared.Context.{Context}
 use Rattle.operations.specs.declared.Context.the-variants.{Call, Calli, Ret, Rfe, Svlcx, Rslcx, Bisr, Syscall}
 use Rattle.image.specs.declared.fetch.Instruction.{Instruction}
-use Rattle.registers.specs.Registers.{A, pc, psw, pcxi, plusOf, even}
+use Rattle.registers.specs.Registers.{A, pc, psw, pcxi, plusOf, newPc}
 use Rattle.registers.specs.declared.Registers.{Registers}
 use Rattle.protection.specs.declared.range.Range.{Range}
 use Rattle.protection.specs.declared.range.Right.the-variants as right
@@ -110,14 +110,14 @@ module _ (quiet : Type 0) {r : Registers} (w : Valid r) (i : Instruction) (o : D
   there-sound half act k (Traps t) h = h
   there-sound half act k There h = k h
 
-  to-word : Word (even (A r 11))
+  to-word : Word (newPc (A r 11))
   to-word = even-word (A r 11) (w .a .each 11)
 
   ret-sound : ActSound quiet r m (retOf r)
   unfolding retOf
   ret-sound =
       either-has (ActSound quiet r m) (underflowsDown (psw r)) (small (omega arith) (omega arith))
-      (there-sound Upper _ (λ h. (return-pc (even (A r 11)) to-word (even-even (A r 11)), h)) (previousOf Upper (pcxi r)) (previous-says Upper))
+      (there-sound Upper _ (λ h. (return-pc (newPc (A r 11)) to-word (even-even (A r 11)), h)) (previousOf Upper (pcxi r)) (previous-says Upper))
 
   rfe-sound : ActSound quiet r m (rfeOf r)
   unfolding rfeOf

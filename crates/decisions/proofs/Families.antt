@@ -22,7 +22,7 @@ use Rattle.operations.specs.declared.Jump.the-variants.{J, Jl, Ji, Jeq, Jne, Jl
 use Rattle.operations.specs.declared.Load.{Load}
 use Rattle.operations.specs.declared.Load.the-variants.{LdB, LdBu, LdH, LdHu, LdW, LdA}
 use Rattle.image.specs.declared.fetch.Instruction.{Instruction}
-use Rattle.registers.specs.Registers.{D, A, pc, psw, withPc, secondOf, plusOf, even, guards}
+use Rattle.registers.specs.Registers.{D, A, pc, psw, withPc, secondOf, plusOf, newPc, guards}
 use Rattle.registers.specs.declared.Registers.{Registers}
 use Rattle.events.specs.Traps.{MPP}
 use Rattle.protection.specs.Range.{permitted}

@@ -16,7 +16,7 @@ use Rattle.areas.specs.Place.{placeOf}
 use Rattle.areas.specs.Area.{areaAt}
 use Rattle.areas.specs.declared.link.Place.{Place}
 use Rattle.areas.specs.declared.link.Place.the-variants as place
-use Rattle.contexts.specs.Restore.{halfOf, loadOf, returnBy, returnOf}
+use Rattle.contexts.specs.Restore.{halfOf, loadedOf, returnBy, returnOf}
 use Rattle.contexts.specs.declared.context.Half.{Half}
 use Rattle.contexts.specs.declared.context.Half.the-variants.{Upper, Lower}
 use Rattle.entries.specs.Entry.{MadeOf, made}
@@ -37,7 +37,7 @@ module _ (half : Half) (then : Registers → Registers) (r : Registers) (m : Mem
         → ReturningCase (made (Made event.Instruction) (then (loadedAt half at r (m .bytes))) (memory (m .windows) (putWord (m .bytes) at (fcx r))))
 
   pub returning-case : ReturningCase (returningOf half then r m)
-  unfolding returnOf loadOf
+  unfolding returnOf loadedOf
   returning-case = by (placeOf m (linkOf (pcxi r))) refl
     where
       by : (x : Place) → placeOf m (linkOf (pcxi r)) ≡ x → ReturningCase (let v = returnBy half r m x in returningBy then (v .returned) (v .registers) (v .memory))

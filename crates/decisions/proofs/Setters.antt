@@ -6,7 +6,7 @@ use mathlib.Core.Path.{_≡_, _∙_}
 use mathlib.Core.List.{List, [], _∷_}
 use lib.ListN.{getD, set, length-set}
 use lib.Seq.{getD-set-same, getD-set-other}
-use Rattle.registers.specs.Registers.{withD, withA, withCore, withPc, even}
+use Rattle.registers.specs.Registers.{withD, withA, withCore, withPc, newPc}
 use Rattle.registers.specs.declared.Registers.{Registers}
 use Rattle.decisions.specs.Valid.{Words, Valid}
 
@@ -46,8 +46,8 @@ module _ {r : Registers} (w : Valid r) where
         even = rw (getD-set-same (r .core) 0 v 0 (omega (arith, w .core .size))) e;
       }
 
-pub even-word : (v : ℕ) → v < 2 ^ 32 → even v < 2 ^ 32
+pub even-word : (v : ℕ) → v < 2 ^ 32 → newPc v < 2 ^ 32
 even-word v h = omega arith
 
-pub even-even : (v : ℕ) → even v % 2 ≡ 0
+pub even-even : (v : ℕ) → newPc v % 2 ≡ 0
 even-even v = omega arith

@@ -16,7 +16,7 @@ use Rattle.operations.specs.declared.System.the-variants.{Enable, Disable, Mfcr
 use Rattle.image.specs.declared.fetch.Instruction.{Instruction}
 use Rattle.registers.specs.Registers.{registers, D, psw, icr}
 use Rattle.registers.specs.declared.Registers.{Registers}
-use Rattle.system.specs.CoreRegisters.{namedOf, readBy, readOf, writtenBy, writtenOf}
+use Rattle.system.specs.CoreRegisters.{namedOf, readBy, coreAt, writtenBy, writtenOf}
 use Rattle.system.specs.Instructions.{enableOf, systemOf}
 use Rattle.system.specs.declared.core_registers.Named.{Named}
 use Rattle.system.specs.declared.core_registers.Named.the-variants.{Pc, Register, Nothing}
@@ -78,7 +78,7 @@ module _ {r : Registers} (w : Valid r) where
         (onward quiet w {i = i} o (sound-icr (sound-start w) _ (icr-word (icr r) ie (ICR·CCPN (icr r)) (w .core .each 5))))
 
     pub system-sound : (op : System) → EndsSound (systemWrites op i r ≡ false) r (systemOf op i r)
-    unfolding systemOf readOf writtenOf
+    unfolding systemOf coreAt writtenOf
     system-sound Enable = enable-sound _ true
     system-sound Disable = enable-sound _ false
     system-sound Mfcr = onward _ w {i = i} o (sound-d (sound-start w) (i .c) _ (read-word (namedOf (i .imm))))

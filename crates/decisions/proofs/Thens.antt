@@ -13,7 +13,7 @@ use Rattle.fields.specs.Icr.{ICR·CCPN, icrOf}
 use Rattle.fields.specs.Pcxi.{PCXI·PIE, PCXI·PCPN}
 use Rattle.fields.specs.Depth.{calledOf}
 use Rattle.bounds.proofs.Fields.{icr-word, called-psw, or-word}
-use Rattle.registers.specs.Registers.{registers, A, pc, psw, pcxi, fcx, icr, biv, btv, withD, withPc, withIcr, even}
+use Rattle.registers.specs.Registers.{registers, A, pc, psw, pcxi, fcx, icr, biv, btv, withD, withPc, withIcr, newPc}
 use Rattle.registers.specs.declared.Registers.{Registers}
 use Rattle.events.specs.declared.trap.Trap.{Trap}
 use Rattle.entries.specs.Entry.{stackOf, enteredOf, trapEntry, interruptEntry}
@@ -81,7 +81,7 @@ trap-then t back b h =
           let we : Valid e = entered-valid back h q w in
           let wf : Valid (withD 15 (t .tin) (withIcr v e)) = valid-d (valid-core we 5 v (omega arith) (icr-word (icr e) false (ICR·CCPN (icr e)) (we .core .each 5))) 15 (t .tin) (omega (arith, b .tin)) in
           let to = bitOr (btv (withD 15 (t .tin) (withIcr v e))) (t .class * 32) in
-          valid-pc wf (even to) (even-word to (or-word _ (t .class * 32) (wf .core .each 8) (omega (arith, b .class)))) (even-even to));
+          valid-pc wf (newPc to) (even-word to (or-word _ (t .class * 32) (wf .core .each 8) (omega (arith, b .class)))) (even-even to));
       blind = λ q w p f. by-ten q w p f (trapEntry t back) (λ a b c d e f' g h' i j. refl);
     }
 
@@ -96,7 +96,7 @@ interrupt-then level b =
           let we : Valid e = entered-valid (pc q) (w .core .each 0) q w in
           let wf : Valid (withIcr v e) = valid-core we 5 v (omega arith) (icr-word (icr e) false level (we .core .each 5)) in
           let to = bitOr (biv (withIcr v e)) (level * 32) in
-          valid-pc wf (even to) (even-word to (or-word _ (level * 32) (wf .core .each 7) (omega (arith, b)))) (even-even to));
+          valid-pc wf (newPc to) (even-word to (or-word _ (level * 32) (wf .core .each 7) (omega (arith, b)))) (even-even to));
       blind = λ q w p f. by-ten q w p f (interruptEntry level) (λ a b' c d e f' g h i j. refl);
     }
 
@@ -105,7 +105,7 @@ pub called-then : (to next : ℕ) → Word to → Word next → Then (calledThen
 unfolding calledThen
 called-then to next h g =
     record {
-      valid = λ q w. valid-pc (valid-core (valid-a w 11 next g) 1 (calledOf (psw q)) (omega arith) (called-psw (psw q) (w .core .each 1))) (even to) (even-word to h) (even-even to);
+      valid = λ q w. valid-pc (valid-core (valid-a w 11 next g) 1 (calledOf (psw q)) (omega arith) (called-psw (psw q) (w .core .each 1))) (newPc to) (even-word to h) (even-even to);
       blind = λ q w p f. by-ten q w p f (calledThen to next) (λ a b c d e f' g' h' i j. refl);
     }
 
@@ -146,7 +146,7 @@ return-pc to h e =
 
 pub return-rfe : (r : Registers) → Valid r → ReturnThen (rfeThen r)
 return-rfe r v =
-    let to = even (A r 11) in
+    let to = newPc (A r 11) in
     let i = icrOf (icr r) (PCXI·PIE (pcxi r)) (PCXI·PCPN (pcxi r)) in
     record {
       valid = λ q w.

@@ -14,7 +14,7 @@ use Rattle.machine.proofs.Stays.{InBounds, step-bounds, run-bounds, run-refuses
 use Rattle.series.specs.Calls.{Kind, step, run, Call, State, state, after, afterAll}
 use Rattle.series.specs.Claim.{Follows}
 use Rattle.records.specs.CoreRecord.{registersIn, requestsIn, rangesOf}
-use Rattle.deqbaryn.specs.Calls.{HostCall, callOf, leaves, leavesAll, HandedOn, callsOf, HostFollows}
+use Rattle.deqbaryn.specs.Calls.{HostCall, seriesCall, leaves, leavesAll, HandedOn, callsOf, HostFollows}
 use Rattle.deqbaryn.proofs.Hosts.{step-stored, run-stored}
 
 words : {r : Registers} → Valid r → Words 16 (r .d) × Words 16 (r .a) × Words 10 (r .core)
@@ -22,11 +22,11 @@ words v = (v .d, v .a, v .core)
 
 -- ---- a call
 module _ (h : HostCall) (s : State) (bounds : InBounds (s .registers) (s .memory)) (l : length (h .core .bytes) ≡ 616) (reg : registersIn (h .core .bytes) ≡ s .registers) where
-  call-bounds : (k : Kind) → h .kind ≡ k → (let t = after (callOf h) s in InBounds (t .registers) (t .memory))
+  call-bounds : (k : Kind) → h .kind ≡ k → (let t = after (seriesCall h) s in InBounds (t .registers) (t .memory))
   call-bounds step e = rw e (step-bounds (h .image .are) (rangesOf (h .core .bytes)) bounds (requestsIn (h .core .bytes)))
   call-bounds (run n) e = rw e (run-bounds (h .image .are) (rangesOf (h .core .bytes)) n bounds (requestsIn (h .core .bytes)))
 
-  call-leaves : (k : Kind) → h .kind ≡ k → leaves h s ≡ after (callOf h) s
+  call-leaves : (k : Kind) → h .kind ≡ k → leaves h s ≡ after (seriesCall h) s
   call-leaves step e =
       let bytes = h .core .bytes in
       let img = h .image .bytes in
@@ -50,7 +50,7 @@ call-none h s n step e = rw (e, ne-eqb (length (h .core .bytes)) 616 n)
 call-none h s n (run k) e = rw (e, ne-eqb (length (h .core .bytes)) 616 n)
 
 -- ---- a series
-calls-one : (h : HostCall) (hs : List HostCall) → length (h .core .bytes) ≡ 616 → callsOf (h ∷ hs) ≡ callOf h ∷ callsOf hs
+calls-one : (h : HostCall) (hs : List HostCall) → length (h .core .bytes) ≡ 616 → callsOf (h ∷ hs) ≡ seriesCall h ∷ callsOf hs
 calls-one h hs l = rw (eq-eqb (length (h .core .bytes)) 616 l)
 
 calls-none : (h : HostCall) (hs : List HostCall) → (length (h .core .bytes) ≡ 616 → ⊥) → callsOf (h ∷ hs) ≡ callsOf hs
@@ -64,7 +64,7 @@ all-leave (h ∷ hs) s bounds (reg, rest) = by (ℕ-discrete (length (h .core .b
     by (yes l) next =
         let e = call-leaves h s bounds l (reg l) (h .kind) refl in
         let t = call-bounds h s bounds l (reg l) (h .kind) refl in
-        ap (leavesAll hs) e ∙ next (after (callOf h) s) t (subst (HandedOn hs) e rest) ∙ ap (λ (cs : List Call). afterAll cs s) (sym (calls-one h hs l))
+        ap (leavesAll hs) e ∙ next (after (seriesCall h) s) t (subst (HandedOn hs) e rest) ∙ ap (λ (cs : List Call). afterAll cs s) (sym (calls-one h hs l))
     by (no n) next =
         let e = call-none h s n (h .kind) refl in
         ap (leavesAll hs) e ∙ next s bounds (subst (HandedOn hs) e rest) ∙ ap (λ (cs : List Call). afterAll cs s) (sym (calls-none h hs n))

@@ -19,8 +19,8 @@ pub record HostCall : Type 0 where
   pub image : Image
 
 -- the step or the run that it makes, with the requests and the ranges of the record
-abbrev pub callOf : HostCall → Call
-callOf h = record { kind = h .kind; image = h .image; requests = requestsIn (h .core .bytes); ranges = rangesOf (h .core .bytes) }
+abbrev pub seriesCall : HostCall → Call
+seriesCall h = record { kind = h .kind; image = h .image; requests = requestsIn (h .core .bytes); ranges = rangesOf (h .core .bytes) }
 
 -- what it answers and leaves
 abbrev pub calledBy : Kind → HostCall → Memory → Called
@@ -45,7 +45,7 @@ HandedOn (h ∷ hs) s = (length (h .core .bytes) ≡ 616 → registersIn (h .cor
 -- the steps and runs of a series: one for each record of 616 bytes
 abbrev pub callsOf : List HostCall → List Call
 callsOf [] = []
-callsOf (h ∷ hs) = cond (isRecord (h .core .bytes)) (callOf h ∷ callsOf hs) (callsOf hs)
+callsOf (h ∷ hs) = cond (isRecord (h .core .bytes)) (seriesCall h ∷ callsOf hs) (callsOf hs)
 
 -- demand 3 of the host library: a series of its calls leaves what the series of steps and runs leaves, and that one follows the abstract lists
 pub record HostFollows (s : State) : Type 0 where

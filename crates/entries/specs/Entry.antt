@@ -7,7 +7,7 @@ use Rattle.memory.specs.Memory.{Memory, memory}
 use Rattle.fields.specs.Psw.{PSW·IS}
 use Rattle.fields.specs.Icr.{ICR·CCPN, icrOf}
 use Rattle.fields.specs.Link.{linkOf}
-use Rattle.registers.specs.Registers.{registers, A, pc, psw, fcx, icr, isp, biv, btv, withD, withA, withPc, withPsw, withIcr, even}
+use Rattle.registers.specs.Registers.{registers, A, pc, psw, fcx, icr, isp, biv, btv, withD, withA, withPc, withPsw, withIcr, newPc}
 use Rattle.registers.specs.declared.Registers.{Registers}
 use Rattle.events.specs.Traps.{FCD}
 use Rattle.events.specs.declared.trap.Trap.{Trap}
@@ -39,14 +39,14 @@ unfoldable pub trapEntry : Trap → ℕ → Registers → Registers
 trapEntry t back r =
     let e = enteredOf back r in
     let f = withD 15 (t .tin) (withIcr (icrOf (icr e) false (ICR·CCPN (icr e))) e) in
-    withPc (even (bitOr (btv f) (t .class * 32))) f
+    withPc (newPc (bitOr (btv f) (t .class * 32))) f
 
 -- an interrupt: A11 = PC, IE = 0, CCPN = the priority number, PC = BIV or'ed with 32 times it
 unfoldable pub interruptEntry : ℕ → Registers → Registers
 interruptEntry level r =
     let e = enteredOf (pc r) r in
     let f = withIcr (icrOf (icr e) false level) e in
-    withPc (even (bitOr (biv f) (level * 32))) f
+    withPc (newPc (bitOr (biv f) (level * 32))) f
 
 -- what a step that is accepted comes to, with the registers and the memory after it
 pub record MadeOf : Type 0 where

@@ -13,7 +13,7 @@ use Rattle.words.proofs.Truth.{never}
 use Rattle.memory.specs.Word.{wordAt}
 use Rattle.operations.specs.Forms.{isShort, operationNumber}
 use Rattle.image.specs.Table.{bodiesOf}
-use Rattle.image.specs.Records.{recordHolds, recordAt, recordsFrom, held, totalOf}
+use Rattle.image.specs.Records.{recordHolds, recordAt, recordsFrom, allHold, totalOf}
 use Rattle.image.specs.Marks.{longFrom, longOnly}
 use Rattle.image.specs.declared.records.ImageCheck.{ImageCheck}
 use Rattle.image.specs.declared.records.ImageCheck.the-variants.{Holds, Table, Record}
@@ -22,36 +22,36 @@ use Rattle.image.proofs.Images.{Sized, turn-on, turn-fault, turn-end}
 use Rattle.image.proofs.Long.{and-one, pass-first, pass-on, pass-end}
 
 -- ---- whether they all hold
-pub held-is : (c : ImageCheck) → held c ≡ true → c ≡ Holds
+pub held-is : (c : ImageCheck) → allHold c ≡ true → c ≡ Holds
 held-is Holds e = refl
 held-is (Table p) e = absurd (never (sym e))
 held-is (Record k) e = absurd (never (sym e))
 
-held-more : (n : ℕ) (img : List ℕ) (at k : ℕ) → held (recordsFrom (suc n) img at k) ≡ (recordAt img at && held (recordsFrom n img (at + 8) (k + 1)))
+held-more : (n : ℕ) (img : List ℕ) (at k : ℕ) → allHold (recordsFrom (suc n) img at k) ≡ (recordAt img at && allHold (recordsFrom n img (at + 8) (k + 1)))
 unfolding recordsFrom
 held-more n img at k = by (recordAt img at)
   where
-    by : (b : Bool) → held (cond b (recordsFrom n img (at + 8) (k + 1)) (Record k)) ≡ (b && held (recordsFrom n img (at + 8) (k + 1)))
+    by : (b : Bool) → allHold (cond b (recordsFrom n img (at + 8) (k + 1)) (Record k)) ≡ (b && allHold (recordsFrom n img (at + 8) (k + 1)))
     by true = refl
     by false = refl
 
 module _ (img : List ℕ) (hold : Bool) where
-  pub held-first : hold ≡ true → (hold && held (recordsFrom (totalOf img - 0) img (bodiesOf img + 8 * 0) 0)) ≡ held (recordsFrom (totalOf img) img (bodiesOf img) 0)
+  pub held-first : hold ≡ true → (hold && allHold (recordsFrom (totalOf img - 0) img (bodiesOf img + 8 * 0) 0)) ≡ allHold (recordsFrom (totalOf img) img (bodiesOf img) 0)
   held-first e =
       let z : totalOf img - 0 ≡ totalOf img = omega arith in
       let y : bodiesOf img + 8 * 0 ≡ bodiesOf img = omega arith in
       rw (e, z, y)
 
   pub held-on : (k : ℕ) → k < totalOf img
-      → (hold && recordAt img (bodiesOf img + 8 * k) && held (recordsFrom (totalOf img - (k + 1)) img (bodiesOf img + 8 * (k + 1)) (k + 1)))
-      ≡ (hold && held (recordsFrom (totalOf img - k) img (bodiesOf img + 8 * k) k))
+      → (hold && recordAt img (bodiesOf img + 8 * k) && allHold (recordsFrom (totalOf img - (k + 1)) img (bodiesOf img + 8 * (k + 1)) (k + 1)))
+      ≡ (hold && allHold (recordsFrom (totalOf img - k) img (bodiesOf img + 8 * k) k))
   held-on k h =
       let z : totalOf img - k ≡ suc (totalOf img - (k + 1)) = omega arith in
       let y : bodiesOf img + 8 * (k + 1) ≡ bodiesOf img + 8 * k + 8 = omega arith in
       rw (z, y, held-more (totalOf img - (k + 1)) img (bodiesOf img + 8 * k) k)
-      (and-assoc hold (recordAt img (bodiesOf img + 8 * k)) (held (recordsFrom (totalOf img - (k + 1)) img (bodiesOf img + 8 * k + 8) (k + 1))))
+      (and-assoc hold (recordAt img (bodiesOf img + 8 * k)) (allHold (recordsFrom (totalOf img - (k + 1)) img (bodiesOf img + 8 * k + 8) (k + 1))))
 
-  pub held-end : (k : ℕ) → totalOf img ≤ k → (hold && held (recordsFrom (totalOf img - k) img (bodiesOf img + 8 * k) k)) ≡ hold
+  pub held-end : (k : ℕ) → totalOf img ≤ k → (hold && allHold (recordsFrom (totalOf img - k) img (bodiesOf img + 8 * k) k)) ≡ hold
   held-end k h = rw (← turn-end img (bodiesOf img + 8 * k) k refl h) (and-one hold)
 
 -- ---- one by one

@@ -28,10 +28,10 @@ recordsFrom zero img at k = Holds
 recordsFrom (suc n) img at k = cond (recordAt img at) (recordsFrom n img (at + 8) (k + 1)) (Record k)
 
 -- whether every record holds
-abbrev pub held : ImageCheck → Bool
-held Holds = true
-held (Table p) = false
-held (Record k) = false
+abbrev pub allHold : ImageCheck → Bool
+allHold Holds = true
+allHold (Table p) = false
+allHold (Record k) = false
 
 -- how many records the bodies have: they fill the image after the table
 abbrev pub totalOf : List ℕ → ℕ

@@ -11,7 +11,7 @@ ghost use mathlib.Core.List.{List};
 ghost use Prim.Native.Nat.{ℕ, _+_, _*_, _/_, _%_, _<_};
 ghost use Rattle.operations.specs.Forms.{isShort, operationNumber};
 ghost use Rattle.image.specs.Table.{bodiesOf, tableOf};
-ghost use Rattle.image.specs.Records.{recordHolds, recordsFrom, held, totalOf, imageOf, ImageHolds};
+ghost use Rattle.image.specs.Records.{recordHolds, recordsFrom, allHold, totalOf, imageOf, ImageHolds};
 ghost use Rattle.image.specs.Rules.{ImageSays};
 ghost use Rattle.image.specs.Marks.{longOnly, longIn};
 ghost use Rattle.words.specs.Exactly.{Exactly};
@@ -64,7 +64,7 @@ fn word_long(w: u32) -> bool
 // One pass over all records, several at a time.
 fn scan_all(image: &[u8]) -> Scan
     requires { ⌜ tableOf (now image) ≡ TableCheck.Holds ⌝ }
-    ensures { λ r. ⌜ (r .hold ≡ held (recordsFrom (totalOf (now (image .entry))) (now (image .entry)) (bodiesOf (now (image .entry))) 0)) × (r .long ≡ longOnly (now (image .entry))) ⌝ }
+    ensures { λ r. ⌜ (r .hold ≡ allHold (recordsFrom (totalOf (now (image .entry))) (now (image .entry)) (bodiesOf (now (image .entry))) 0)) × (r .long ≡ longOnly (now (image .entry))) ⌝ }
 {
     let n = word_at(image, 0);
     let from = 4 + 12 * n as usize;

@@ -22,7 +22,7 @@ use Rattle.image.specs.declared.records.ImageCheck.{ImageCheck}
 use Rattle.image.specs.declared.records.ImageCheck.the-variants as image
 use Rattle.image.proofs.Images.{image-says}
 use Rattle.inputs.specs.Checks.{windowVerdict, imageSaid, imageVerdict, pcVerdict, listsSaid, andThen, stepVerdict, startVerdict}
-use Rattle.inputs.specs.Rules.{WindowsHold, Even, Ready, StepSays, StartSays}
+use Rattle.inputs.specs.Rules.{WindowsHold, Even, StepRight, StepSays, StartSays}
 use Rattle.inputs.specs.declared.verdict.Verdict.{Verdict}
 use Rattle.inputs.specs.declared.verdict.Verdict.the-variants.{Accepted, Refused}
 use Rattle.inputs.specs.declared.verdict.Refusal.{Refusal}
@@ -80,7 +80,7 @@ module _ (m : Memory) (img : List ℕ) (pc : ℕ) where
 
 -- ---- all seven
 module _ (m : Memory) (img : List ℕ) (pc fcx pcxi : ℕ) where
-  lists-verdict : Ready m img pc → (e : ListEnd) → ListsCome m fcx pcxi e → StartSays m img pc fcx pcxi (listsSaid e)
+  lists-verdict : StepRight m img pc → (e : ListEnd) → ListsCome m fcx pcxi e → StartSays m img pc fcx pcxi (listsSaid e)
   lists-verdict r list.Whole c = (r, sound-of m (windows-small m (r .windows)) fcx pcxi c)
   lists-verdict r list.LinkOutside c = (r, c)
   lists-verdict r list.MetAgain c = (r, c)
@@ -112,7 +112,7 @@ module _ (m : Memory) (img : List ℕ) (pc fcx pcxi : ℕ) where
           rw (start-passed e)
           (lists-verdict s (listsOf m fcx pcxi) (lists-come m (windows-small m (s .windows)) fcx pcxi))
 
-  lists-end : Ready m img pc → (e : ListEnd) → ListsCome m fcx pcxi e → startVerdict m img pc fcx pcxi ≡ listsSaid e
+  lists-end : StepRight m img pc → (e : ListEnd) → ListsCome m fcx pcxi e → startVerdict m img pc fcx pcxi ≡ listsSaid e
   lists-end r e c =
       start-passed (step-is m img pc Accepted r) ∙ ap listsSaid (end-is m fcx pcxi (r .windows) e c)
 

@@ -54,7 +54,7 @@ abbrev pub Even : ℕ → Type 0
 Even pc = pc % 2 ≡ 0
 
 -- rules 1, 13 and 2 to 4 hold
-pub record Ready (m : Memory) (img : List ℕ) (pc : ℕ) : Type 0 where
+pub record StepRight (m : Memory) (img : List ℕ) (pc : ℕ) : Type 0 where
   pub windows : WindowsHold m
   pub image : ImageRight img
   pub even : Even pc
@@ -105,7 +105,7 @@ ListsSay m fcx pcxi (Refused MetAgain) = WindowsHold m × ListsCome m fcx pcxi l
 
 -- of rules 1, 13 and 2 to 4, in their order
 abbrev pub StepSays : Memory → List ℕ → ℕ → Verdict → Type 0
-StepSays m img pc Accepted = Ready m img pc
+StepSays m img pc Accepted = StepRight m img pc
 StepSays m img pc (Refused Window) = RightOf m → ⊥
 StepSays m img pc (Refused Overlap) = RightOf m × (ApartOf m → ⊥)
 StepSays m img pc (Refused (Table entry)) = WindowsHold m × TableFault img entry
@@ -116,11 +116,11 @@ StepSays m img pc (Refused MetAgain) = ⊥
 
 -- and of all seven
 abbrev pub StartSays : Memory → List ℕ → ℕ → ℕ → ℕ → Verdict → Type 0
-StartSays m img pc fcx pcxi Accepted = Ready m img pc × Sound m fcx pcxi
+StartSays m img pc fcx pcxi Accepted = StepRight m img pc × Sound m fcx pcxi
 StartSays m img pc fcx pcxi (Refused Window) = RightOf m → ⊥
 StartSays m img pc fcx pcxi (Refused Overlap) = RightOf m × (ApartOf m → ⊥)
 StartSays m img pc fcx pcxi (Refused (Table entry)) = WindowsHold m × TableFault img entry
 StartSays m img pc fcx pcxi (Refused (Record index)) = WindowsHold m × RecordFault img index
 StartSays m img pc fcx pcxi (Refused OddPc) = WindowsHold m × ImageRight img × (Even pc → ⊥)
-StartSays m img pc fcx pcxi (Refused LinkOutside) = Ready m img pc × ListsCome m fcx pcxi list.LinkOutside
-StartSays m img pc fcx pcxi (Refused MetAgain) = Ready m img pc × ListsCome m fcx pcxi list.MetAgain
+StartSays m img pc fcx pcxi (Refused LinkOutside) = StepRight m img pc × ListsCome m fcx pcxi list.LinkOutside
+StartSays m img pc fcx pcxi (Refused MetAgain) = StepRight m img pc × ListsCome m fcx pcxi list.MetAgain

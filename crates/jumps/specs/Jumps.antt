@@ -5,14 +5,14 @@ use Rattle.compare.specs.Compare.{equals, lessSigned, lessUnsigned}
 use Rattle.operations.specs.declared.Jump.{Jump}
 use Rattle.operations.specs.declared.Jump.the-variants.{J, Jl, Ji, Jeq, Jne, Jlt, JltU, Jge, JgeU, Loop}
 use Rattle.image.specs.declared.fetch.Instruction.{Instruction}
-use Rattle.registers.specs.Registers.{D, A, pc, psw, withA, withPc, plusOf, minusOf, even, guards}
+use Rattle.registers.specs.Registers.{D, A, pc, psw, withA, withPc, plusOf, minusOf, newPc, guards}
 use Rattle.registers.specs.declared.Registers.{Registers}
 use Rattle.events.specs.Traps.{GRWP}
 use Rattle.acts.specs.Acts.{Effect, Sets, Traps}
 
 -- jumps go to PC plus immediate, modulo 2^32
 unfoldable pub targetOf : ℕ → ℕ → ℕ
-targetOf pc imm = even (plusOf pc imm)
+targetOf pc imm = newPc (plusOf pc imm)
 
 unfoldable pub branchOf : Bool → ℕ → ℕ → ℕ → ℕ
 branchOf taken pc imm next = cond taken (targetOf pc imm) next
@@ -45,7 +45,7 @@ jumpOf J i r = Sets (withPc (targetOf (pc r) (i .imm)) r)
 -- A11 = PC + 4
 jumpOf Jl i r = Sets (withPc (targetOf (pc r) (i .imm)) (withA 11 (i .next) r))
 -- to A[a] as before the step
-jumpOf Ji i r = Sets (withPc (even (A r (i .a))) r)
+jumpOf Ji i r = Sets (withPc (newPc (A r (i .a))) r)
 jumpOf Jeq i r = compareOf Jeq i r
 jumpOf Jne i r = compareOf Jne i r
 jumpOf Jlt i r = compareOf Jlt i r

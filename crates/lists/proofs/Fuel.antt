@@ -13,7 +13,7 @@ use Rattle.memory.specs.Word.{wordAt}
 use Rattle.fields.specs.Link.{linkOf}
 use Rattle.areas.specs.Link.{areaAddress}
 use Rattle.areas.specs.Place.{placeOf}
-use Rattle.lists.specs.Walk.{Walked, walkOf}
+use Rattle.lists.specs.Walk.{Walked, listWalk}
 use Rattle.fields.specs.declared.link.Link.{Link}
 use Rattle.areas.specs.declared.link.Place.{Place}
 use Rattle.areas.specs.declared.link.Place.the-variants.{At, Outside}
@@ -67,12 +67,12 @@ pub mark-in : (m : Memory) (l : Link) (met : List Bool) (at : ℕ) → length (m
 mark-in m l met at hm hs p = omega (arith, placed-at (m .windows) (length (m .bytes)) (areaAddress l) at p .inside)
 
 pub walk-enough : (f : ℕ) (m : Memory) (l : Link) (met : List Bool) → length (m .bytes) ≤ 131072 → length met ≡ 2048 → unmet met < f
-    → walkOf (suc f) m l met ≡ walkOf f m l met
+    → listWalk (suc f) m l met ≡ listWalk f m l met
 walk-enough zero m l met hm hs hu = absurd (omega arith)
 walk-enough (suc f) m l met hm hs hu = go (turn m l met) (walk-enough f m)
   where
-    go : Turn m l met → ((k : Link) (s : List Bool) → length (m .bytes) ≤ 131072 → length s ≡ 2048 → unmet s < f → walkOf (suc f) m k s ≡ walkOf f m k s)
-        → walkOf (suc (suc f)) m l met ≡ walkOf (suc f) m l met
+    go : Turn m l met → ((k : Link) (s : List Bool) → length (m .bytes) ≤ 131072 → length s ≡ 2048 → unmet s < f → listWalk (suc f) m k s ≡ listWalk f m k s)
+        → listWalk (suc (suc f)) m l met ≡ listWalk (suc f) m l met
     go (ends e) r = walk-whole (suc f) m l met e ∙ sym (walk-whole f m l met e)
     go (outside z p) r = walk-outside (suc f) m l met z p ∙ sym (walk-outside f m l met z p)
     go (again at z p t) r = walk-again (suc f) m l met z at p t ∙ sym (walk-again f m l met z at p t)
@@ -83,7 +83,7 @@ walk-enough (suc f) m l met hm hs hu = go (turn m l met) (walk-enough f m)
 
 -- a turn that goes on, with as many links left as before
 pub walk-next : (m : Memory) (l : Link) (met : List Bool) (at : ℕ) → length (m .bytes) ≤ 131072 → length met ≡ 2048 → (l .0 ≡ 0 → ⊥) → placeOf m l ≡ At at → getD met (at / 64) false ≡ false
-    → walkOf 2049 m l met ≡ walkOf 2049 m (linkOf (wordAt (m .bytes) at)) (set met (at / 64) true)
+    → listWalk 2049 m l met ≡ listWalk 2049 m (linkOf (wordAt (m .bytes) at)) (set met (at / 64) true)
 walk-next m l met at hm hs z p t =
     let u = unmet-set met (at / 64) (mark-in m l met at hm hs p) t in
     let s : length (set met (at / 64) true) ≡ 2048 = simp length-set hs in
@@ -91,11 +91,11 @@ walk-next m l met at hm hs z p t =
     walk-on 2048 m l met z at p t ∙ sym (walk-enough 2048 m (linkOf (wordAt (m .bytes) at)) (set met (at / 64) true) hm s v)
 
 -- the marks are as many as before
-pub walk-length : (n : ℕ) (m : Memory) (l : Link) (met : List Bool) → length (walkOf n m l met .met) ≡ length met
+pub walk-length : (n : ℕ) (m : Memory) (l : Link) (met : List Bool) → length (listWalk n m l met .met) ≡ length met
 walk-length zero m l met = ap (λ (w : Walked). length (w .met)) (walk-over 0 m l met)
 walk-length (suc n) m l met = go (turn m l met) (walk-length n m)
   where
-    go : Turn m l met → ((k : Link) (s : List Bool) → length (walkOf n m k s .met) ≡ length s) → length (walkOf (suc n) m l met .met) ≡ length met
+    go : Turn m l met → ((k : Link) (s : List Bool) → length (listWalk n m k s .met) ≡ length s) → length (listWalk (suc n) m l met .met) ≡ length met
     go (ends e) r = rw (walk-whole n m l met e)
     go (outside z p) r = rw (walk-outside n m l met z p)
     go (again at z p t) r = rw (walk-again n m l met z at p t)

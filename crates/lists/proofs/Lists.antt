@@ -12,7 +12,7 @@ use Rattle.memory.specs.Memory.{Memory}
 use Rattle.memory.specs.Word.{wordAt}
 use Rattle.fields.specs.Link.{linkOf}
 use Rattle.areas.specs.Place.{placeOf}
-use Rattle.lists.specs.Walk.{Walked, walked, walkOf, thenUsed, listsOf}
+use Rattle.lists.specs.Walk.{Walked, walked, listWalk, thenUsed, listsOf}
 use Rattle.lists.specs.Lists.{Leads, one, count, Sound, Why, Comes, ListsCome, at-free, at-used}
 use Rattle.fields.specs.declared.link.Link.{Link}
 use Rattle.areas.specs.declared.link.Place.the-variants.{At, Outside}
@@ -110,20 +110,20 @@ goes-here : (m : Memory) (c : Link → ℕ) (l : Link) (met : List Bool) (e : Li
 goes-here m c l met e o g y =
     record { met = []; last = l; leads = refl; first = λ k. omega (arith, o k); why = y; marks = marked-same (λ k. omega arith) g }
 
-goes : (n : ℕ) (m : Memory) (c : Link → ℕ) (l : Link) (met : List Bool) → length (m .bytes) ≤ 131072 → l .0 < 2 ^ 20 → ((k : Link) → c k ≤ 1) → Marked m met c → unmet met < n → Goes m c l (walkOf n m l met)
+goes : (n : ℕ) (m : Memory) (c : Link → ℕ) (l : Link) (met : List Bool) → length (m .bytes) ≤ 131072 → l .0 < 2 ^ 20 → ((k : Link) → c k ≤ 1) → Marked m met c → unmet met < n → Goes m c l (listWalk n m l met)
 unfolding why-at
 goes zero m c l met small b o g u = absurd (omega arith)
 goes (suc n) m c l met small b o g u = go (turn m l met) (goes n m)
   where
     go : Turn m l met
-        → ((d : Link → ℕ) (k : Link) (s : List Bool) → length (m .bytes) ≤ 131072 → k .0 < 2 ^ 20 → ((x : Link) → d x ≤ 1) → Marked m s d → unmet s < n → Goes m d k (walkOf n m k s))
-        → Goes m c l (walkOf (suc n) m l met)
+        → ((d : Link → ℕ) (k : Link) (s : List Bool) → length (m .bytes) ≤ 131072 → k .0 < 2 ^ 20 → ((x : Link) → d x ≤ 1) → Marked m s d → unmet s < n → Goes m d k (listWalk n m k s))
+        → Goes m c l (listWalk (suc n) m l met)
     go (ends e) r = rw (walk-whole n m l met e) (goes-here m c l met Whole o g e)
     go (outside z p) r = rw (walk-outside n m l met z p) (goes-here m c l met LinkOutside o g (z, p))
     go (again at z p t) r = rw (walk-again n m l met z at p t) (goes-here m c l met MetAgain o g (z, at, p, omega (arith, g .yes-met l at b p t)))
     go (onward at z p t) r =
         rw (walk-on n m l met z at p t)
-        (goes-more m c l at z p (walkOf n m (linkOf (wordAt (m .bytes) at)) (set met (at / 64) true))
+        (goes-more m c l at z p (listWalk n m (linkOf (wordAt (m .bytes) at)) (set met (at / 64) true))
         (r (λ k. one k l + c k) (linkOf (wordAt (m .bytes) at)) (set met (at / 64) true) small (link-lt (wordAt (m .bytes) at))
         fresh
         (marked-more m small met c g l b at p)
@@ -213,21 +213,21 @@ module _ (m : Memory) (before after : List Link) (alike : before ≡ after) (l :
 -- ---- the two lists
 module _ (m : Memory) (small : length (m .bytes) ≤ 131072) (fcx pcxi : ℕ) where
   free-walk : Walked
-  free-walk = walkOf 2049 m (linkOf fcx) (replicate 2048 false)
+  free-walk = listWalk 2049 m (linkOf fcx) (replicate 2048 false)
 
   free-goes : Goes m (λ k. 0) (linkOf fcx) free-walk
   unfolding free-walk
   free-goes =
       goes 2049 m (λ k. 0) (linkOf fcx) (replicate 2048 false) small (link-lt fcx) (λ k. omega arith) (marked-none m small) (omega (arith, unmet-le (replicate 2048 false)))
 
-  used-goes : (ls : List Link) → ((k : Link) → count k ls ≤ 1) → Marked m (free-walk .met) (λ k. count k ls) → Goes m (λ k. count k ls) (linkOf pcxi) (walkOf 2049 m (linkOf pcxi) (free-walk .met))
+  used-goes : (ls : List Link) → ((k : Link) → count k ls ≤ 1) → Marked m (free-walk .met) (λ k. count k ls) → Goes m (λ k. count k ls) (linkOf pcxi) (listWalk 2049 m (linkOf pcxi) (free-walk .met))
   used-goes ls o g = goes 2049 m (λ k. count k ls) (linkOf pcxi) (free-walk .met) small (link-lt pcxi) o g (omega (arith, unmet-le (free-walk .met), g .many))
 
   lists-by : (e : ListEnd) → free-walk .end ≡ e → Goes m (λ k. 0) (linkOf fcx) free-walk → ListsCome m fcx pcxi (thenUsed m pcxi e (free-walk .met))
   unfolding comes-of
   lists-by Whole q g =
       at-used (comes-of m [] (linkOf fcx) free-walk Whole q g)
-      (comes-of m (g .met) (linkOf pcxi) (walkOf 2049 m (linkOf pcxi) (free-walk .met)) (thenUsed m pcxi Whole (free-walk .met)) refl
+      (comes-of m (g .met) (linkOf pcxi) (listWalk 2049 m (linkOf pcxi) (free-walk .met)) (thenUsed m pcxi Whole (free-walk .met)) refl
       (used-goes (g .met) (λ k. omega (arith, g .first k)) (marked-same (λ k. omega arith) (g .marks))))
   lists-by LinkOutside q g = at-free (λ z. (let n : _≡_ {A = ℕ} 0 1 = cc in omega arith)) (comes-of m [] (linkOf fcx) free-walk LinkOutside q g)
   lists-by MetAgain q g = at-free (λ z. (let n : _≡_ {A = ℕ} 0 1 = cc in omega arith)) (comes-of m [] (linkOf fcx) free-walk MetAgain q g)

@@ -29,18 +29,18 @@ walkAt m met on (At at) =
     cond (getD met (at / 64) false) (walked MetAgain met) (on (linkOf (wordAt (m .bytes) at)) (set met (at / 64) true))
 
 -- the list from the link l on, over at most n links. Two windows have 2,048 areas at most, so 2,049 links never run out (proofs/Fuel.antt)
-unfoldable pub walkOf : ℕ → Memory → Link → List Bool → Walked
-walkOf zero m l met = walked MetAgain met
-walkOf (suc n) m l met = cond (eqb (l .0) 0) (walked Whole met) (walkAt m met (walkOf n m) (placeOf m l))
+unfoldable pub listWalk : ℕ → Memory → Link → List Bool → Walked
+listWalk zero m l met = walked MetAgain met
+listWalk (suc n) m l met = cond (eqb (l .0) 0) (walked Whole met) (walkAt m met (listWalk n m) (placeOf m l))
 
 -- the used list is followed only where the free one is whole
 abbrev pub thenUsed : Memory → ℕ → ListEnd → List Bool → ListEnd
-thenUsed m pcxi Whole met = walkOf 2049 m (linkOf pcxi) met .end
+thenUsed m pcxi Whole met = listWalk 2049 m (linkOf pcxi) met .end
 thenUsed m pcxi LinkOutside met = LinkOutside
 thenUsed m pcxi MetAgain met = MetAgain
 
 -- first the free list, from FCX, then the used one, from PCXI, with the areas that the free one met
 unfoldable pub listsOf : Memory → ℕ → ℕ → ListEnd
 listsOf m fcx pcxi =
-    let free = walkOf 2049 m (linkOf fcx) (replicate 2048 false) in
+    let free = listWalk 2049 m (linkOf fcx) (replicate 2048 false) in
     thenUsed m pcxi (free .end) (free .met)

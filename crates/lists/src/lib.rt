@@ -11,7 +11,7 @@ ghost use mathlib.Core.List.{_++_};
 ghost use Prim.Native.Nat.{_≤_};
 ghost use lib.ListN.{length};
 ghost use Rattle.memory.specs.Memory.{lent};
-ghost use Rattle.lists.specs.Walk.{walkOf, walked, listsOf};
+ghost use Rattle.lists.specs.Walk.{listWalk, walked, listsOf};
 ghost use Rattle.lists.specs.Lists.{ListsCome};
 ghost use Rattle.words.specs.Exactly.{Exactly};
 
@@ -35,7 +35,7 @@ fn walk<'a>(
     met: &mut [bool; 2048],
 ) -> ListEnd
     requires { ⌜ (length (now window ++ now window2) ≤ 131072) × (length (now met) ≡ 2048) ⌝ }
-    ensures { λ r. ⌜ walked r (now (met .exit)) ≡ walkOf 2049 (lent base (now (window .entry)) base2 (now (window2 .entry))) head (now (met .entry)) ⌝ }
+    ensures { λ r. ⌜ walked r (now (met .exit)) ≡ listWalk 2049 (lent base (now (window .entry)) base2 (now (window2 .entry))) head (now (met .entry)) ⌝ }
 {
     let mut l = head;
     while l.0 != 0 {

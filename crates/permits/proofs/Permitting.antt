@@ -28,7 +28,7 @@ use Rattle.protection.specs.declared.access.Check.the-variants.{Passes, Fails}
 use Rattle.protection.proofs.Searches.{lowest-says, lowest-is}
 use Rattle.interrupts.specs.Sources.{bestOf, takes}
 use Rattle.operations.specs.Operations.{operationOf, accessOf}
-use Rattle.operations.specs.declared.Access.{Access as DataAccess}
+use Rattle.operations.specs.declared.Access.{Access}
 use Rattle.operations.specs.Forms.{operationNumber}
 use Rattle.image.specs.Fetch.{instructionAt, fetchOf}
 use Rattle.image.specs.declared.fetch.Instruction.{Instruction}
@@ -36,7 +36,7 @@ use Rattle.image.specs.declared.fetch.Fetched.{Fetched}
 use Rattle.image.specs.declared.fetch.Fetched.the-variants.{Found, Nothing}
 use Rattle.accesses.specs.Reach.{dataAddress}
 use Rattle.decisions.specs.Beginning.{Beginning, Interrupts, checkBegins, fetchingAt, beginningOf}
-use Rattle.permits.specs.Permits.{Access, none, access, dataBy, dataIn, fetchAsked, dataAsked, permitOf, permitsBy, noPermits, begunPermits, permitsOf, Named}
+use Rattle.permits.specs.Permits.{Asked, none, access, dataBy, dataIn, fetchAsked, dataAsked, permitOf, permitsBy, noPermits, begunPermits, permitsOf, NamedFor}
 use Rattle.permits.specs.declared.Permits.{Permits}
 
 module _ (core : List ℕ) (rs : List Range) where
@@ -63,30 +63,30 @@ module _ (core : List ℕ) (rs : List Range) where
     asked h p = rw (lt-leb _ _ h, p)
 
     -- what is named says so, and nothing else does
-    says : (b : Bool) → asks core address ≡ b → Named core rs (access right address) (cond b (lowestOf rs (PSW·PRS (getD core 1 0)) right address) Unnamed)
+    says : (b : Bool) → asks core address ≡ b → NamedFor core rs (access right address) (cond b (lowestOf rs (PSW·PRS (getD core 1 0)) right address) Unnamed)
     says true e = inl (e, lowest-says rs right address (PSW·PRS (getD core 1 0)))
     says false e = inr (e, refl)
 
-    only : (b : Bool) → asks core address ≡ b → (p : Permit) → Named core rs (access right address) p → p ≡ cond b (lowestOf rs (PSW·PRS (getD core 1 0)) right address) Unnamed
+    only : (b : Bool) → asks core address ≡ b → (p : Permit) → NamedFor core rs (access right address) p → p ≡ cond b (lowestOf rs (PSW·PRS (getD core 1 0)) right address) Unnamed
     only true e p (inl h) = lowest-is rs right address (PSW·PRS (getD core 1 0)) p (h .1) .0
     only true e p (inr h) = absurd (never (sym e ∙ h .0))
     only false e p (inl h) = absurd (never (sym (h .0) ∙ e))
     only false e p (inr h) = h .1
 
-  pub named : (a : Access) (p : Permit) → p ≡ permitOf core rs a → Exactly (Named core rs a) p
+  pub named : (a : Asked) (p : Permit) → p ≡ permitOf core rs a → Exactly (NamedFor core rs a) p
   unfolding permitOf
-  named none p e = exactly (Named core rs none) Unnamed refl (λ x h. h) p e .1
+  named none p e = exactly (NamedFor core rs none) Unnamed refl (λ x h. h) p e .1
   named (access right address) p e =
-      exactly (Named core rs (access right address)) (permitOf core rs (access right address)) (says right address (asks core address) refl) (only right address (asks core address) refl) p e .1
+      exactly (NamedFor core rs (access right address)) (permitOf core rs (access right address)) (says right address (asks core address) refl) (only right address (asks core address) refl) p e .1
 
   -- with protection off none is named
-  off : (a : Access) → SYSCON·PROTEN (getD core 9 0) ≡ false → Unnamed ≡ permitOf core rs a
+  off : (a : Asked) → SYSCON·PROTEN (getD core 9 0) ≡ false → Unnamed ≡ permitOf core rs a
   off none p = of-none
   off (access right address) p = not-asked right address p
 
   -- ---- the data access of the record at a byte of the image
   module _ (a img : List ℕ) (at pc : ℕ) (address : Address) (is : address ≡ dataAddress (getD a (getD img (at + 2) 0) 0) (wordAt img (at + 4))) where
-    pub of-data : (x : DataAccess) → x ≡ accessOf (operationOf (operationNumber (getD img at 0))) → {p : Permit} → p ≡ permitOf core rs (dataBy x address) → p ≡ permitOf core rs (dataIn (instructionAt img at pc) a)
+    pub of-data : (x : Access) → x ≡ accessOf (operationOf (operationNumber (getD img at 0))) → {p : Permit} → p ≡ permitOf core rs (dataBy x address) → p ≡ permitOf core rs (dataIn (instructionAt img at pc) a)
     unfolding instructionAt
     of-data x e h = rw (← e, ← is) h
 
@@ -108,13 +108,13 @@ module _ (core : List ℕ) (rs : List Range) where
     -- ---- of a step
     module _ (xs : List ℕ) where
       abbrev Says : Beginning → Permits → Type 0
-      Says s p = (p ≡ begunPermits a core rs s) × (Exactly (Named core rs (fetchAsked (getD core 0 0) s)) (p .fetch) × Exactly (Named core rs (dataAsked a s)) (p .data))
+      Says s p = (p ≡ begunPermits a core rs s) × (Exactly (NamedFor core rs (fetchAsked (getD core 0 0) s)) (p .fetch) × Exactly (NamedFor core rs (dataAsked a s)) (p .data))
 
       says-both : (s : Beginning) (f d : Permit) → f ≡ permitOf core rs (fetchAsked (getD core 0 0) s) → d ≡ permitOf core rs (dataAsked a s) → Says s (permitsBy f d)
       says-both s f d p q = (ap (λ (x : Permit). permitsBy x d) p ∙ ap (permitsBy (permitOf core rs (fetchAsked (getD core 0 0) s))) q, (named (fetchAsked (getD core 0 0) s) f p, named (dataAsked a s) d q))
 
       abbrev pub Both : Permits → Type 0
-      Both p = (p ≡ permitsOf img a core xs rs) × (Exactly (Named core rs (fetchAsked (getD core 0 0) (beginningOf img core xs rs))) (p .fetch) × Exactly (Named core rs (dataAsked a (beginningOf img core xs rs))) (p .data))
+      Both p = (p ≡ permitsOf img a core xs rs) × (Exactly (NamedFor core rs (fetchAsked (getD core 0 0) (beginningOf img core xs rs))) (p .fetch) × Exactly (NamedFor core rs (dataAsked a (beginningOf img core xs rs))) (p .data))
 
       both : (p : Permits) (s : Beginning) → beginningOf img core xs rs ≡ s → Says s p → Both p
       unfolding permitsOf

@@ -17,7 +17,7 @@ use Rattle.protection.specs.declared.range.Right.the-variants.{Read, Write, Exe
 use Rattle.protection.specs.declared.range.Permit.{Permit}
 use Rattle.protection.specs.declared.range.Permit.the-variants.{Unnamed}
 use Rattle.operations.specs.Operations.{accessOf}
-use Rattle.operations.specs.declared.Access.{Access as DataAccess}
+use Rattle.operations.specs.declared.Access.{Access}
 use Rattle.operations.specs.declared.Access.the-variants as data-access
 use Rattle.image.specs.declared.fetch.Instruction.{Instruction}
 use Rattle.accesses.specs.Load.{addressIn}
@@ -25,32 +25,32 @@ use Rattle.decisions.specs.Beginning.{Beginning, Interrupts, Traps, Executes, b
 use Rattle.permits.specs.declared.Permits.{Permits}
 
 -- an access that a step makes: a right and an address
-pub data Access : Type 0 where
-  none : Access
-  access : Right → Address → Access
+pub data Asked : Type 0 where
+  none : Asked
+  access : Right → Address → Asked
 
 -- a load's or a store's, at A[a] plus immediate
-abbrev pub dataBy : DataAccess → Address → Access
+abbrev pub dataBy : Access → Address → Asked
 dataBy data-access.Nothing address = none
 dataBy data-access.Read address = access Read address
 dataBy data-access.Write address = access Write address
 
-abbrev pub dataIn : Instruction → List ℕ → Access
+abbrev pub dataIn : Instruction → List ℕ → Asked
 dataIn i a = dataBy (accessOf (i .op)) (addressIn i a)
 
 -- by a step's beginning, with the PC and the address registers before it: the fetch's access, none where an interrupt is taken; and the instruction's
-abbrev pub fetchAsked : ℕ → Beginning → Access
+abbrev pub fetchAsked : ℕ → Beginning → Asked
 fetchAsked pc (Interrupts b) = none
 fetchAsked pc (Traps t) = access Execute (asAddress pc)
 fetchAsked pc (Executes i) = access Execute (asAddress pc)
 
-abbrev pub dataAsked : List ℕ → Beginning → Access
+abbrev pub dataAsked : List ℕ → Beginning → Asked
 dataAsked a (Interrupts b) = none
 dataAsked a (Traps t) = none
 dataAsked a (Executes i) = dataIn i a
 
 -- the range named for an access: of set PRS the lowest that permits it, and only where the ranges are asked
-unfoldable pub permitOf : List ℕ → List Range → Access → Permit
+unfoldable pub permitOf : List ℕ → List Range → Asked → Permit
 permitOf core rs none = Unnamed
 permitOf core rs (access right address) = cond (asks core address) (lowestOf rs (PSW·PRS (getD core PSW 0)) right address) Unnamed
 
@@ -69,6 +69,6 @@ unfoldable pub permitsOf : List ℕ → List ℕ → List ℕ → List ℕ → L
 permitsOf img a core xs rs = begunPermits a core rs (beginningOf img core xs rs)
 
 -- what is named for an access. The ranges are asked: a range of set PRS that permits it and before which none does, or no range where none permits. They are not: no range
-abbrev pub Named : List ℕ → List Range → Access → Permit → Type 0
-Named core rs none p = p ≡ Unnamed
-Named core rs (access right address) p = ((asks core address ≡ true) × Lowest rs (PSW·PRS (getD core PSW 0)) right address p) ⊎ ((asks core address ≡ false) × (p ≡ Unnamed))
+abbrev pub NamedFor : List ℕ → List Range → Asked → Permit → Type 0
+NamedFor core rs none p = p ≡ Unnamed
+NamedFor core rs (access right address) p = ((asks core address ≡ true) × Lowest rs (PSW·PRS (getD core PSW 0)) right address p) ⊎ ((asks core address ≡ false) × (p ≡ Unnamed))

@@ -35,7 +35,7 @@ ghost use Rattle.image.specs.Marks.{longOnly};
 ghost use Rattle.image.specs.Fetch.{instructionAt, FieldsHold};
 ghost use Rattle.registers.specs.Core.{PC};
 ghost use Rattle.decisions.specs.Beginning.{fetchingAt, beginningOf};
-ghost use Rattle.permits.specs.Permits.{access, dataIn, fetchAsked, dataAsked, permitOf, permitsOf, Named};
+ghost use Rattle.permits.specs.Permits.{access, dataIn, fetchAsked, dataAsked, permitOf, permitsOf, NamedFor};
 
 // The ranges named for a step's fetch and for its data access.
 pub struct Permits {
@@ -129,8 +129,8 @@ pub fn permits_of(
 ) -> Permits
     requires { ⌜ ImageHolds (now image) × (long ≡ true → longOnly (now image) ≡ true) ⌝ }
     ensures { λ r. ⌜ r ≡ permitsOf (now (image .entry)) (now (a .entry)) (now (core .entry)) (now (requests .entry)) (rangesIn (now (words .entry))) ⌝ }
-    ensures { λ r. ⌜ Exactly (Named (now (core .entry)) (rangesIn (now (words .entry))) (fetchAsked (getD (now (core .entry)) PC 0) (beginningOf (now (image .entry)) (now (core .entry)) (now (requests .entry)) (rangesIn (now (words .entry)))))) (r .fetch) ⌝ }
-    ensures { λ r. ⌜ Exactly (Named (now (core .entry)) (rangesIn (now (words .entry))) (dataAsked (now (a .entry)) (beginningOf (now (image .entry)) (now (core .entry)) (now (requests .entry)) (rangesIn (now (words .entry)))))) (r .data) ⌝ }
+    ensures { λ r. ⌜ Exactly (NamedFor (now (core .entry)) (rangesIn (now (words .entry))) (fetchAsked (getD (now (core .entry)) PC 0) (beginningOf (now (image .entry)) (now (core .entry)) (now (requests .entry)) (rangesIn (now (words .entry)))))) (r .fetch) ⌝ }
+    ensures { λ r. ⌜ Exactly (NamedFor (now (core .entry)) (rangesIn (now (words .entry))) (dataAsked (now (a .entry)) (beginningOf (now (image .entry)) (now (core .entry)) (now (requests .entry)) (rangesIn (now (words .entry)))))) (r .data) ⌝ }
 {
     if !fields::syscon::protection(core[SYSCON]) {
         return Permits {

@@ -90,8 +90,8 @@ unfoldable pub minusOf : ℕ → ℕ → ℕ
 minusOf x y = (x + (2 ^ 32 - y)) % 2 ^ 32
 
 -- bit 0 of a new PC is cleared
-abbrev pub even : ℕ → ℕ
-even pc = pc / 2 * 2
+abbrev pub newPc : ℕ → ℕ
+newPc pc = pc / 2 * 2
 
 -- the global address registers: A0, A1, A8, A9
 unfoldable pub isGlobal : ℕ → Bool

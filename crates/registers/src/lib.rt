@@ -3,7 +3,7 @@
 ghost use mathlib.Core.Path.{_≡_};
 ghost use Prim.Native.Nat.{_≤_};
 ghost use Rattle.registers.specs.Core.{places};
-ghost use Rattle.registers.specs.Registers.{secondOf, plusOf, minusOf, even, isGlobal, guards};
+ghost use Rattle.registers.specs.Registers.{secondOf, plusOf, minusOf, newPc, isGlobal, guards};
 
 // How many words of the state stand with the core registers.
 pub const CORE: usize = 10;
@@ -68,7 +68,7 @@ pub fn minus(x: u32, y: u32) -> u32
 
 // A new PC: bit 0 is cleared.
 pub fn new_pc(pc: u32) -> u32
-    ensures { λ r. ⌜ r ≡ even pc ⌝ }
+    ensures { λ r. ⌜ r ≡ newPc pc ⌝ }
 {
     pc / 2 * 2
 }

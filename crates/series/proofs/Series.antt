@@ -29,7 +29,7 @@ use Rattle.machine.specs.declared.answer.Outcome.{Outcome}
 use Rattle.machine.specs.declared.answer.Outcome.the-variants as outcome
 use Rattle.machine.proofs.Turns.{accepted-step}
 use Rattle.machine.proofs.Singles.{step-refused, run-refused, run-accepted}
-use Rattle.series.specs.Abstract.{AbstractLists, moveOf, moved}
+use Rattle.series.specs.Abstract.{AbstractLists, listMoveOf, moved}
 use Rattle.series.specs.Calls.{Image, Kind, step, run, Call, State, state, afterStep, afterRun, afterKind, after, afterAll, Args, args, stepAt, onlyMade, runArgs, kindArgs, allArgs}
 use Rattle.series.specs.Conditions.{verdictAt, decisionAt, moveBy, movedAt, movedAll, QuietBy, AllQuiet}
 use Rattle.series.specs.Claim.{RestoredBy, StopsBy, StepBy, EachStep}
@@ -59,14 +59,14 @@ module _ (L : List Link) (a : Args) (b : AbstractLists) where
     restored : RestoredBy d (s .registers) b
     stops : StopsBy (s .outcome) b now
 
-  settled : (d : Decision) (ys : List ℕ) (p : Permits) (x : MadeOf) → Kept r m x → Moves L d r b x → Settled d (acceptedBy r (a .requests) m ys p (x .ending) (x .registers) (x .memory)) (moved (moveOf d r) b)
+  settled : (d : Decision) (ys : List ℕ) (p : Permits) (x : MadeOf) → Kept r m x → Moves L d r b x → Settled d (acceptedBy r (a .requests) m ys p (x .ending) (x .registers) (x .memory)) (moved (listMoveOf d r) b)
   settled d ys p x k z = by (x .ending) refl
     where
-      by : (e : Ending) → x .ending ≡ e → Settled d (acceptedBy r (a .requests) m ys p e (x .registers) (x .memory)) (moved (moveOf d r) b)
+      by : (e : Ending) → x .ending ≡ e → Settled d (acceptedBy r (a .requests) m ys p e (x .registers) (x .memory)) (moved (listMoveOf d r) b)
       by (ending.Made e) h = record { inv = z .inv; restored = z .restores; stops = tt }
       by (ending.Stopped y) h =
           record {
-            inv = subst (λ (q : Registers). Inv L (state q m) (moved (moveOf d r) b)) (k .leaves y h .0) (subst (λ (n : Memory). Inv L (state (x .registers) n) (moved (moveOf d r) b)) (k .leaves y h .1) (z .inv));
+            inv = subst (λ (q : Registers). Inv L (state q m) (moved (listMoveOf d r) b)) (k .leaves y h .0) (subst (λ (n : Memory). Inv L (state (x .registers) n) (moved (listMoveOf d r) b)) (k .leaves y h .1) (z .inv));
             restored = subst (λ (q : Registers). RestoredBy d q b) (k .leaves y h .0) (z .restores);
             stops = z .stays y h;
           }

@@ -43,7 +43,7 @@ use Rattle.decisions.proofs.Decides.{DecisionSound}
 use Rattle.decisions.proofs.Savings.{saving-case}
 use Rattle.decisions.proofs.Steps.{never-made}
 use Rattle.decisions.proofs.Returnings.{loadedAt, loaded-valid, ReturningCase, outside, returns, returning-case}
-use Rattle.series.specs.Abstract.{named, held, SavedContext, AbstractLists, lists, links, moveOf, returnOne, moved}
+use Rattle.series.specs.Abstract.{named, held, SavedContext, AbstractLists, lists, links, listMoveOf, returnOne, moved}
 use Rattle.series.specs.Calls.{state}
 use Rattle.series.specs.Conditions.{Apart, StoreApart}
 use Rattle.series.specs.Claim.{RestoredBy}
@@ -168,8 +168,8 @@ module _ (half : Half) (then : Registers → Registers) (t : ReturnThen then) (L
 
 -- ---- what is decided
 pub record Moves (L : List Link) (d : Decision) (r : Registers) (b : AbstractLists) (x : MadeOf) : Type 0 where
-  pub inv : Inv L (state (x .registers) (x .memory)) (moved (moveOf d r) b)
-  pub stays : (y : Stop) → x .ending ≡ Stopped y → moved (moveOf d r) b ≡ b
+  pub inv : Inv L (state (x .registers) (x .memory)) (moved (listMoveOf d r) b)
+  pub stays : (y : Stop) → x .ending ≡ Stopped y → moved (listMoveOf d r) b ≡ b
   pub restores : RestoredBy d (x .registers) b
 
 pub decision-moves : {L : List Link} {r : Registers} {m : Memory} {b : AbstractLists} (quiet : Type 0) → quiet → Inv L (state r m) b → (d : Decision) → DecisionSound quiet r m d → StoreApart L m d

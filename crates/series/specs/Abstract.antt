@@ -63,17 +63,17 @@ pub record SaveOf : Type 0 where
   pub reached : List ℕ
 
 -- a step's saves and return. Neither FCX nor the links of areas are in it
-pub data Move : Type 0 where
-  none : Move
-  saves : SaveOf → Move
-  returns : Move
+pub data ListMove : Type 0 where
+  none : ListMove
+  saves : SaveOf → ListMove
+  returns : ListMove
 
-abbrev pub moveOf : Decision → Registers → Move
-moveOf (Keep q) r = none
-moveOf (Write op at v q) r = none
-moveOf (Save e half saved-pc then) r =
+abbrev pub listMoveOf : Decision → Registers → ListMove
+listMoveOf (Keep q) r = none
+listMoveOf (Write op at v q) r = none
+listMoveOf (Save e half saved-pc then) r =
     saves (record { half = half; registers = named half r; limit = linkOf (lcx r); icr = icr r; reached = upperRegisters (then r) })
-moveOf (Return half then) r = returns
+listMoveOf (Return half then) r = returns
 
 -- the FCD entry's save, after the one that took l. Where there is no link for it the step is a stop
 abbrev pub saveTwo : SaveOf → Link → List Link → AbstractLists → AbstractLists
@@ -90,7 +90,7 @@ abbrev pub returnOne : List SavedContext → AbstractLists → AbstractLists
 returnOne [] b = b
 returnOne (c ∷ cs) b = lists (c .link ∷ b .free) cs
 
-unfoldable pub moved : Move → AbstractLists → AbstractLists
+unfoldable pub moved : ListMove → AbstractLists → AbstractLists
 moved none b = b
 moved (saves s) b = saveOne s (b .free) b
 moved returns b = returnOne (b .saved) b

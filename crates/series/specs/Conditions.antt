@@ -17,7 +17,7 @@ use Rattle.inputs.specs.declared.verdict.Verdict.the-variants.{Accepted, Refuse
 use Rattle.decisions.specs.Heads.{stepHeads}
 use Rattle.execute.specs.Decision.{Decision, Keep, Write, Save, Return}
 use Rattle.decisions.specs.Decision.{decisionOf}
-use Rattle.series.specs.Abstract.{AbstractLists, Move, none, moveOf, moved}
+use Rattle.series.specs.Abstract.{AbstractLists, ListMove, none, listMoveOf, moved}
 use Rattle.series.specs.Calls.{Args}
 
 -- a step is decided where the rules 1, 13 and 2 to 4 accept it
@@ -27,9 +27,9 @@ verdictAt a = stepVerdict (a .memory) (a .image .bytes) (pc (a .registers))
 abbrev pub decisionAt : Args → Decision
 decisionAt a = decisionOf (a .image .bytes) (a .registers) (a .requests) (a .ranges) (a .memory)
 
-abbrev pub moveBy : Verdict → Args → Move
+abbrev pub moveBy : Verdict → Args → ListMove
 moveBy (Refused x) a = none
-moveBy Accepted a = moveOf (decisionAt a) (a .registers)
+moveBy Accepted a = listMoveOf (decisionAt a) (a .registers)
 
 -- the abstract lists after a step: fed the step's arguments
 unfoldable pub movedAt : Args → AbstractLists → AbstractLists

@@ -51,7 +51,7 @@ use Rattle.execute.specs.Execute.{executeOf}
 use Rattle.decisions.specs.Beginning as beginning
 use Rattle.decisions.specs.Beginning.{checkBegins, fetchingAt}
 use Rattle.decisions.proofs.Beginnings.{fetchedStep, executes}
-use Rattle.spans.specs.Spans.{recordsBelow, fetchableBy, fetchableOf, foundOf, spanOf, begin, LiesInBody, Lies, SpanHolds, indexOn, IndexTells, namesIn, markedIndex, IndexIn, Current, placeOf, PlaceIn}
+use Rattle.spans.specs.Spans.{recordsBelow, fetchableBy, fetchableOf, foundOf, spanOf, begin, LiesInBody, Lies, SpanHolds, indexOn, IndexTells, namesIn, markedIndex, IndexIn, Current, placeAfter, PlaceIn}
 use Rattle.spans.specs.declared.Span.{Span}
 
 -- ---- of the records from pc on, those that protection lets be fetched
@@ -306,16 +306,16 @@ module _ (img : List ℕ) (s : Span) where
 
   -- the place by cases
   module _ (guide : Guide) (marks : List ℕ) (at next pc : ℕ) where
-    pub place-long : guide .long ≡ true → s .end ≡ placeOf img guide marks s at next pc
-    unfolding placeOf
+    pub place-long : guide .long ≡ true → s .end ≡ placeAfter img guide marks s at next pc
+    unfolding placeAfter
     place-long e = rw e
 
-    pub place-follows : guide .long ≡ false → pc ≡ next → at + 8 ≡ placeOf img guide marks s at next pc
-    unfolding placeOf
+    pub place-follows : guide .long ≡ false → pc ≡ next → at + 8 ≡ placeAfter img guide marks s at next pc
+    unfolding placeAfter
     place-follows e f = rw (e, eq-eqb _ _ f)
 
-    pub place-marked : guide .long ≡ false → (pc ≡ next → ⊥) → s .at + 8 * markedIndex img (guide .shift) marks s pc ≡ placeOf img guide marks s at next pc
-    unfolding placeOf
+    pub place-marked : guide .long ≡ false → (pc ≡ next → ⊥) → s .at + 8 * markedIndex img (guide .shift) marks s pc ≡ placeAfter img guide marks s at next pc
+    unfolding placeAfter
     place-marked e f = rw (e, ne-eqb _ _ f)
 
   module _ {long : Bool} (y : Lies img long s) where

@@ -121,8 +121,8 @@ pub record Current (img : List ℕ) (s : Span) (at next : ℕ) : Type 0 where
   pub ends : next ≡ begin img s (index + 1)
 
 -- the byte at which the record stands that begins at pc, after the one at byte `at`, which ends at `next`: the next one, or the one found by a mark. Past the span where no mark tells, and where all are long: these are found by their index
-unfoldable pub placeOf : List ℕ → Guide → List ℕ → Span → ℕ → ℕ → ℕ → ℕ
-placeOf img guide marks s at next pc =
+unfoldable pub placeAfter : List ℕ → Guide → List ℕ → Span → ℕ → ℕ → ℕ → ℕ
+placeAfter img guide marks s at next pc =
     cond (guide .long) (s .end) (cond (eqb pc next) (at + 8) (s .at + 8 * markedIndex img (guide .shift) marks s pc))
 
 -- a byte in the span is that at which the record stands that begins at pc

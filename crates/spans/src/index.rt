@@ -10,7 +10,7 @@ use image::marks::slot_of;
 ghost use mathlib.Core.Path.{_≡_};
 ghost use mathlib.Core.Bool.{true, false};
 ghost use Rattle.image.specs.Marks.{MarksHold};
-ghost use Rattle.spans.specs.Spans.{Lies, Placed, indexOn, IndexTells, markedIndex, Current, placeOf, PlaceIn};
+ghost use Rattle.spans.specs.Spans.{Lies, Placed, indexOn, IndexTells, markedIndex, Current, placeAfter, PlaceIn};
 
 // The index of the record that begins at pc, walked to from the one with index k, which begins at `here`: past the span where there is none.
 fn index_on(image: &[u8], long: bool, s: Span, k: u32, here: u32, pc: u32) -> u32
@@ -64,7 +64,7 @@ pub fn place_at(
     pc: u32,
 ) -> usize
     requires { ⌜ Lies (now image) (guide .long) s × (guide .long ≡ false → Current (now image) s at next) × MarksHold (now image) (now marks) ⌝ }
-    ensures { λ r. ⌜ PlaceIn (now (image .entry)) s pc r × (guide .long ≡ true → r ≡ s .end) × (r ≡ placeOf (now (image .entry)) guide (now (marks .entry)) s at next pc) ⌝ }
+    ensures { λ r. ⌜ PlaceIn (now (image .entry)) s pc r × (guide .long ≡ true → r ≡ s .end) × (r ≡ placeAfter (now (image .entry)) guide (now (marks .entry)) s at next pc) ⌝ }
 {
     if guide.long {
         return s.end;

@@ -49,8 +49,8 @@ readBy core (Register k) = getD core k 0
 readBy core Nothing = 0
 
 -- MFCR: the register at the offset; the rest read 0
-unfoldable pub readOf : List ℕ → ℕ → ℕ
-readOf core offset = readBy core (namedOf offset)
+unfoldable pub coreAt : List ℕ → ℕ → ℕ
+coreAt core offset = readBy core (namedOf offset)
 
 abbrev pub writtenBy : List ℕ → ℕ → Named → List ℕ
 writtenBy core value Pc = core

@@ -10,7 +10,7 @@ use Rattle.registers.specs.Registers.{registers, D, psw, icr, withD, withPc, wi
 use Rattle.registers.specs.declared.Registers.{Registers}
 use Rattle.events.specs.Traps.{PRIV, OVF, SOVF}
 use Rattle.acts.specs.Acts.{Effect, Sets, Traps, TrapsAfter}
-use Rattle.system.specs.CoreRegisters.{readOf, writtenOf}
+use Rattle.system.specs.CoreRegisters.{coreAt, writtenOf}
 
 -- IE is set or cleared, not from User-0
 unfoldable pub enableOf : Bool → ℕ → Registers → Effect
@@ -21,7 +21,7 @@ unfoldable pub systemOf : System → Instruction → Registers → Effect
 systemOf Enable i r = enableOf true (i .next) r
 systemOf Disable i r = enableOf false (i .next) r
 -- D[c] = the core register at the immediate's offset
-systemOf Mfcr i r = Sets (withPc (i .next) (withD (i .c) (readOf (r .core) (i .imm)) r))
+systemOf Mfcr i r = Sets (withPc (i .next) (withD (i .c) (coreAt (r .core) (i .imm)) r))
 -- that core register = D[a], from Supervisor
 systemOf Mtcr i r =
     cond (isSupervisor (psw r)) (Sets (withPc (i .next) (registers (r .d) (r .a) (writtenOf (r .core) (i .imm) (D r (i .a))))))

@@ -12,7 +12,7 @@ use registers::PCXI;
 use registers::PSW;
 use registers::SYSCON;
 ghost use mathlib.Core.Path.{_≡_};
-ghost use Rattle.system.specs.CoreRegisters.{namedOf, Known, readOf, writtenOf};
+ghost use Rattle.system.specs.CoreRegisters.{namedOf, Known, coreAt, writtenOf};
 
 pub enum Named {
     Pc,
@@ -41,7 +41,7 @@ fn named_at(offset: u32) -> Named
 
 // The core register at an offset; 0 where there is none.
 pub fn read_core(core: &[u32; CORE], offset: u32) -> u32
-    ensures { λ r. ⌜ r ≡ readOf (now (core .entry)) offset ⌝ }
+    ensures { λ r. ⌜ r ≡ coreAt (now (core .entry)) offset ⌝ }
 {
     match named_at(offset) {
         Named::Pc => core[PC],

@@ -27,7 +27,7 @@ use Rattle.walk.specs.Start.{windowOf, startBytes, startRegisters}
 use Rattle.walk.specs.Text.{headerText, refusedOf, longText}
 use Rattle.walk.specs.Written.{Written}
 use Rattle.walk.specs.Walk.{longest, allSteps, walkOf}
-use Rattle.walk.specs.Blocks.{Block, standing, block, left, placed, beginOf, goOnOf, restOf, Part, Onward}
+use Rattle.walk.specs.Blocks.{Block, standing, block, left, placed, beginOf, goOnOf, remaining, Part, Onward}
 use Rattle.walk.specs.declared.blocks.Walk.{Walk}
 use Rattle.walk.proofs.Texts.{front}
 use Rattle.walk.proofs.Wholes.{with-rest, begin-whole, next-whole}
@@ -94,7 +94,7 @@ module _ (img w : List ℕ) (r : Registers) (f : w ≡ startBytes) (e : r ≡ st
 -- ---- the next one
 -- what `go_on` promises, in its clauses' order
 abbrev pub Gone : List ℕ → Walk → Walk → List ℕ → List ℕ → Type 0
-Gone img v w out₀ out = (left w out ≡ placed (goOnOf img v) out₀) × (Part (restOf img v) img w out × Onward v w)
+Gone img v w out₀ out = (left w out ≡ placed (goOnOf img v) out₀) × (Part (remaining img v) img w out × Onward v w)
 
 module _ (img : List ℕ) (v : Walk) (more : v .over ≡ false) {out₀ out : List ℕ} {made : ℕ} {over : Bool} {r : Registers} {xs w : List ℕ} {at : ℕ} (d : Done img (v .made) (v .registers) (v .requests) (v .window) out₀ out made over r xs w at) where
   is-next : goOnOf img v ≡ block w r xs made over (d .text)

@@ -16,29 +16,29 @@ use Rattle.inputs.specs.declared.verdict.Verdict.the-variants.{Accepted, Refuse
 use Rattle.walk.specs.Start.{startVerdictOf}
 use Rattle.walk.specs.Text.{endOf, refusedOf, longText}
 use Rattle.walk.specs.Walk.{longest, allSteps, isLast, stepFrom, printed, walkFrom, walkBy, walkOf}
-use Rattle.walk.specs.Blocks.{Block, block, firstBlock, beginBy, beginOf, full, madeBy, blockFrom, goOnOf, restOf}
+use Rattle.walk.specs.Blocks.{Block, block, firstBlock, beginBy, beginOf, full, madeBy, blockFrom, goOnOf, remaining}
 use Rattle.walk.specs.declared.blocks.Walk.{Walk}
 
 -- a block's text, followed by what is printed after it
 abbrev pub with-rest : List ℕ → Block → List ℕ
-with-rest img b = b .text ++ restOf img (b .walk)
+with-rest img b = b .text ++ remaining img (b .walk)
 
 rest-last : (img : List ℕ) (r : Registers) (xs w : List ℕ) (made : ℕ) (text : List ℕ) → with-rest img (block w r xs made true text) ≡ text
-unfolding restOf
+unfolding remaining
 rest-last img r xs w made text = append-nil text
 
 rest-more : (img : List ℕ) (r : Registers) (xs w : List ℕ) (made : ℕ) (text : List ℕ) → with-rest img (block w r xs made false text) ≡ text ++ walkFrom (allSteps - made) img made r xs w
-unfolding restOf
+unfolding remaining
 rest-more img r xs w made text = refl
 
 -- ---- the first block
 by-verdict : (img : List ℕ) (v : Verdict) → with-rest img (beginBy img v) ≡ walkBy img v
-unfolding restOf
+unfolding remaining
 by-verdict img (Refused x) = append-nil (refusedOf x)
 by-verdict img Accepted = refl
 
 by-length : (img : List ℕ) (long : Bool) (v : Verdict) → with-rest img (cond long (firstBlock img true longText) (beginBy img v)) ≡ cond long longText (walkBy img v)
-unfolding restOf
+unfolding remaining
 by-length img true v = append-nil longText
 by-length img false v = by-verdict img v
 
@@ -66,8 +66,8 @@ block-whole (suc n) img made r xs w text e =
     (rest-more img r xs w made text ∙ rw (← e))
     (by-end img (isLast (s .outcome)) _ _ text p _ (rest-last img (s .registers) (s .requests) (s .memory .bytes) (madeBy (s .outcome) made) more) (block-whole n img (made + 1) (s .registers) (s .requests) (s .memory .bytes) more (omega arith)))
 
-pub next-whole : (img : List ℕ) (w : Walk) → w .over ≡ false → with-rest img (goOnOf img w) ≡ restOf img w
-unfolding goOnOf restOf
+pub next-whole : (img : List ℕ) (w : Walk) → w .over ≡ false → with-rest img (goOnOf img w) ≡ remaining img w
+unfolding goOnOf remaining
 next-whole img w f = rw f (block-whole (allSteps - w .made) img (w .made) (w .registers) (w .requests) (w .window) [] refl)
 
 -- ---- an image that is longer than the longest

@@ -76,12 +76,12 @@ goOnOf img w = blockFrom (allSteps - w .made) img (w .made) (w .registers) (w .r
 
 -- ---- what follows of the blocks together
 -- what is still to be printed after a block
-unfoldable pub restOf : List ℕ → Walk → List ℕ
-restOf img w = cond (w .over) [] (walkFrom (allSteps - w .made) img (w .made) (w .registers) (w .requests) (w .window))
+unfoldable pub remaining : List ℕ → Walk → List ℕ
+remaining img w = cond (w .over) [] (walkFrom (allSteps - w .made) img (w .made) (w .registers) (w .requests) (w .window))
 
 -- a block's bytes, followed by those still to be printed, are those that were due; and a walk that is not over can be gone on with
 pub record Part (due img : List ℕ) (w : Walk) (out : List ℕ) : Type 0 where
-  pub bytes : take (w .len) out ++ restOf img w ≡ due
+  pub bytes : take (w .len) out ++ remaining img w ≡ due
   pub fits : w .len ≤ length out
   pub ready : w .over ≡ false → Ready img (w .registers) (windowOf (w .window))
 

@@ -24,7 +24,7 @@ ghost use mathlib.Core.Bool.{false};
 ghost use Rattle.machine.specs.Inner.{Ready};
 ghost use Rattle.walk.specs.Start.{windowOf};
 ghost use Rattle.walk.specs.Walk.{isTrap, walkOf};
-ghost use Rattle.walk.specs.Blocks.{left, placed, beginOf, goOnOf, restOf, Part, Onward};
+ghost use Rattle.walk.specs.Blocks.{left, placed, beginOf, goOnOf, remaining, Part, Onward};
 
 // Where a walk stands after a block of len bytes.
 pub struct Walk {
@@ -106,7 +106,7 @@ pub fn go_on(image: &[u8], w: Walk, out: &mut [u8; 65536]) -> Walk
     requires { ⌜ Ready (now image) (w .registers) (windowOf (w .window)) ⌝ }
     requires { ⌜ w .over ≡ false ⌝ }
     ensures { λ r. ⌜ left r (now (out .exit)) ≡ placed (goOnOf (now (image .entry)) w) (now (out .entry)) ⌝ }
-    ensures { λ r. ⌜ Part (restOf (now (image .entry)) w) (now (image .entry)) r (now (out .exit)) ⌝ }
+    ensures { λ r. ⌜ Part (remaining (now (image .entry)) w) (now (image .entry)) r (now (out .exit)) ⌝ }
     ensures { λ r. ⌜ Onward w r ⌝ }
 {
     let ranges = no_ranges();

@@ -12,10 +12,10 @@ use Rattle.memory.specs.Word.{wordAt, wordsAt, putWord, putWords}
 use Rattle.registers.specs.Registers.{plusOf, pc, fcx, pcxi}
 use Rattle.areas.specs.Place.{placedAt, spotAt, placedIn}
 use Rattle.areas.specs.declared.link.Spot.the-variants.{First, Second}
-use Rattle.lists.specs.Walk.{walkOf, listsOf}
+use Rattle.lists.specs.Walk.{listWalk, listsOf}
 use Rattle.contexts.specs.Context.{upperOf, lowerOf}
 use Rattle.contexts.specs.Save.{roomAt, takeOf, foreseenOf, saveAtOf, saveOf}
-use Rattle.contexts.specs.Restore.{loadOf, returnOf}
+use Rattle.contexts.specs.Restore.{loadedOf, returnOf}
 use Rattle.entries.specs.Entry.{stackOf, enteredOf, trapEntry, interruptEntry, fcdOf}
 use Rattle.protection.specs.Range.{enables, permits, firstOf, anyFrom}
 use Rattle.protection.specs.Access.{checkOf}
@@ -44,12 +44,12 @@ use Rattle.series.specs.Abstract.{upperRegisters, lowerRegisters, moved}
 use Rattle.series.specs.Conditions.{movedAt, movedAll}
 use Rattle.series.specs.Claim.{listed}
 use Rattle.witness.specs.Start.{start}
-use Rattle.witness.specs.Series.{interrupted, saving, returning, calls}
+use Rattle.witness.specs.Series.{interrupted, savingCalls, returningCalls, calls}
 use Rattle.witness.specs.Lists.{begun, depleted, allFree, ended}
 use Rattle.witness.specs.Witness.{spots, outcomes, happening, loaded}
 
 pub accepted : startVerdict (start .memory) (interrupted .bytes) (pc (start .registers)) (fcx (start .registers)) (pcxi (start .registers)) ≡ Accepted
-unfolding wordAt placedAt spotAt placedIn walkOf listsOf entryAt addressAfter lengthOf operationNumber entryFits entriesFrom tableOf recordHolds recordsFrom imageOf windowHolds secondHolds apartHolds windowsVerdict stepVerdict startVerdict
+unfolding wordAt placedAt spotAt placedIn listWalk listsOf entryAt addressAfter lengthOf operationNumber entryFits entriesFrom tableOf recordHolds recordsFrom imageOf windowHolds secondHolds apartHolds windowsVerdict stepVerdict startVerdict
 accepted = refl
 
 pub crossing : spots (start .memory) (listed begun) ≡ First 0 ∷ Second 0 ∷ First 64 ∷ Second 64 ∷ First 128 ∷ []
@@ -57,25 +57,25 @@ unfolding spotAt placedIn
 crossing = refl
 
 pub happened : outcomes (allArgs calls start) ≡ happening
-unfolding bit isSet counterBits counts overflowsUp underflowsDown nested calledOf icrOf pcxiOf requests clearedOf wordAt wordsAt putWord putWords plusOf placedAt spotAt placedIn upperOf lowerOf roomAt takeOf foreseenOf saveAtOf saveOf loadOf returnOf stackOf enteredOf trapEntry interruptEntry fcdOf betterOf bestBelow takes clearedAt enables permits firstOf anyFrom checkOf operationOf entryAt addressAfter lengthOf operationNumber entryFits entriesFrom tableOf recordHolds recordsFrom imageOf bodyWalk restFrom restOf instructionAt fetchOf windowHolds secondHolds apartHolds windowsVerdict stepVerdict calledThen callOf svlcxOf bisrThen bisrOf previousOf retOf rfeOf rslcxOf contextOp alignedReach reachOf storeOf actOf fetchingAt beginningOf decisionOf oneOf requestsOf stepOf runFrom runOf runArgs
+unfolding bit isSet counterBits counts overflowsUp underflowsDown nested calledOf icrOf pcxiOf requests clearedOf wordAt wordsAt putWord putWords plusOf placedAt spotAt placedIn upperOf lowerOf roomAt takeOf foreseenOf saveAtOf saveOf loadedOf returnOf stackOf enteredOf trapEntry interruptEntry fcdOf betterOf bestBelow takes clearedAt enables permits firstOf anyFrom checkOf operationOf entryAt addressAfter lengthOf operationNumber entryFits entriesFrom tableOf recordHolds recordsFrom imageOf bodyWalk restFrom restOf instructionAt fetchOf windowHolds secondHolds apartHolds windowsVerdict stepVerdict calledThen callOf svlcxOf bisrThen bisrOf previousOf retOf rfeOf rslcxOf contextOp alignedReach reachOf storeOf actOf fetchingAt beginningOf decisionOf oneOf requestsOf stepOf runFrom runOf runArgs
 happened = refl
 
-pub no-area-left : movedAll (allArgs saving start) begun ≡ depleted
-unfolding bit isSet counterBits counts overflowsUp underflowsDown nested calledOf icrOf pcxiOf requests clearedOf wordAt wordsAt putWord putWords plusOf placedAt spotAt placedIn upperOf lowerOf roomAt takeOf foreseenOf saveAtOf saveOf loadOf returnOf stackOf enteredOf trapEntry interruptEntry fcdOf betterOf bestBelow takes clearedAt enables permits firstOf anyFrom checkOf operationOf entryAt addressAfter lengthOf operationNumber entryFits entriesFrom tableOf recordHolds recordsFrom imageOf bodyWalk restFrom restOf instructionAt fetchOf windowHolds secondHolds apartHolds windowsVerdict stepVerdict calledThen callOf svlcxOf bisrThen bisrOf previousOf retOf rfeOf rslcxOf contextOp alignedReach reachOf storeOf actOf fetchingAt beginningOf oneOf requestsOf stepOf runFrom runOf runArgs decisionOf upperRegisters lowerRegisters moved movedAt
+pub no-area-left : movedAll (allArgs savingCalls start) begun ≡ depleted
+unfolding bit isSet counterBits counts overflowsUp underflowsDown nested calledOf icrOf pcxiOf requests clearedOf wordAt wordsAt putWord putWords plusOf placedAt spotAt placedIn upperOf lowerOf roomAt takeOf foreseenOf saveAtOf saveOf loadedOf returnOf stackOf enteredOf trapEntry interruptEntry fcdOf betterOf bestBelow takes clearedAt enables permits firstOf anyFrom checkOf operationOf entryAt addressAfter lengthOf operationNumber entryFits entriesFrom tableOf recordHolds recordsFrom imageOf bodyWalk restFrom restOf instructionAt fetchOf windowHolds secondHolds apartHolds windowsVerdict stepVerdict calledThen callOf svlcxOf bisrThen bisrOf previousOf retOf rfeOf rslcxOf contextOp alignedReach reachOf storeOf actOf fetchingAt beginningOf oneOf requestsOf stepOf runFrom runOf runArgs decisionOf upperRegisters lowerRegisters moved movedAt
 no-area-left = refl
 
-pub no-area-used : movedAll (allArgs (saving ++ returning) start) begun ≡ allFree
-unfolding bit isSet counterBits counts overflowsUp underflowsDown nested calledOf icrOf pcxiOf requests clearedOf wordAt wordsAt putWord putWords plusOf placedAt spotAt placedIn upperOf lowerOf roomAt takeOf foreseenOf saveAtOf saveOf loadOf returnOf stackOf enteredOf trapEntry interruptEntry fcdOf betterOf bestBelow takes clearedAt enables permits firstOf anyFrom checkOf operationOf entryAt addressAfter lengthOf operationNumber entryFits entriesFrom tableOf recordHolds recordsFrom imageOf bodyWalk restFrom restOf instructionAt fetchOf windowHolds secondHolds apartHolds windowsVerdict stepVerdict calledThen callOf svlcxOf bisrThen bisrOf previousOf retOf rfeOf rslcxOf contextOp alignedReach reachOf storeOf actOf fetchingAt beginningOf oneOf requestsOf stepOf runFrom runOf runArgs decisionOf upperRegisters lowerRegisters moved movedAt
+pub no-area-used : movedAll (allArgs (savingCalls ++ returningCalls) start) begun ≡ allFree
+unfolding bit isSet counterBits counts overflowsUp underflowsDown nested calledOf icrOf pcxiOf requests clearedOf wordAt wordsAt putWord putWords plusOf placedAt spotAt placedIn upperOf lowerOf roomAt takeOf foreseenOf saveAtOf saveOf loadedOf returnOf stackOf enteredOf trapEntry interruptEntry fcdOf betterOf bestBelow takes clearedAt enables permits firstOf anyFrom checkOf operationOf entryAt addressAfter lengthOf operationNumber entryFits entriesFrom tableOf recordHolds recordsFrom imageOf bodyWalk restFrom restOf instructionAt fetchOf windowHolds secondHolds apartHolds windowsVerdict stepVerdict calledThen callOf svlcxOf bisrThen bisrOf previousOf retOf rfeOf rslcxOf contextOp alignedReach reachOf storeOf actOf fetchingAt beginningOf oneOf requestsOf stepOf runFrom runOf runArgs decisionOf upperRegisters lowerRegisters moved movedAt
 no-area-used = refl
 
 pub after : movedAll (allArgs calls start) begun ≡ ended
-unfolding bit isSet counterBits counts overflowsUp underflowsDown nested calledOf icrOf pcxiOf requests clearedOf wordAt wordsAt putWord putWords plusOf placedAt spotAt placedIn upperOf lowerOf roomAt takeOf foreseenOf saveAtOf saveOf loadOf returnOf stackOf enteredOf trapEntry interruptEntry fcdOf betterOf bestBelow takes clearedAt enables permits firstOf anyFrom checkOf operationOf entryAt addressAfter lengthOf operationNumber entryFits entriesFrom tableOf recordHolds recordsFrom imageOf bodyWalk restFrom restOf instructionAt fetchOf windowHolds secondHolds apartHolds windowsVerdict stepVerdict calledThen callOf svlcxOf bisrThen bisrOf previousOf retOf rfeOf rslcxOf contextOp alignedReach reachOf storeOf actOf fetchingAt beginningOf oneOf requestsOf stepOf runFrom runOf runArgs decisionOf upperRegisters lowerRegisters moved movedAt
+unfolding bit isSet counterBits counts overflowsUp underflowsDown nested calledOf icrOf pcxiOf requests clearedOf wordAt wordsAt putWord putWords plusOf placedAt spotAt placedIn upperOf lowerOf roomAt takeOf foreseenOf saveAtOf saveOf loadedOf returnOf stackOf enteredOf trapEntry interruptEntry fcdOf betterOf bestBelow takes clearedAt enables permits firstOf anyFrom checkOf operationOf entryAt addressAfter lengthOf operationNumber entryFits entriesFrom tableOf recordHolds recordsFrom imageOf bodyWalk restFrom restOf instructionAt fetchOf windowHolds secondHolds apartHolds windowsVerdict stepVerdict calledThen callOf svlcxOf bisrThen bisrOf previousOf retOf rfeOf rslcxOf contextOp alignedReach reachOf storeOf actOf fetchingAt beginningOf oneOf requestsOf stepOf runFrom runOf runArgs decisionOf upperRegisters lowerRegisters moved movedAt
 after = refl
 
-pub restored : afterAll (saving ++ returning) start .registers ≡ loaded
-unfolding bit isSet counterBits counts overflowsUp underflowsDown nested calledOf icrOf pcxiOf requests clearedOf wordAt wordsAt putWord putWords plusOf placedAt spotAt placedIn upperOf lowerOf roomAt takeOf foreseenOf saveAtOf saveOf loadOf returnOf stackOf enteredOf trapEntry interruptEntry fcdOf betterOf bestBelow takes clearedAt enables permits firstOf anyFrom checkOf operationOf entryAt addressAfter lengthOf operationNumber entryFits entriesFrom tableOf recordHolds recordsFrom imageOf bodyWalk restFrom restOf instructionAt fetchOf windowHolds secondHolds apartHolds windowsVerdict stepVerdict calledThen callOf svlcxOf bisrThen bisrOf previousOf retOf rfeOf rslcxOf contextOp alignedReach reachOf storeOf actOf fetchingAt beginningOf decisionOf oneOf requestsOf stepOf runFrom runOf runArgs
+pub restored : afterAll (savingCalls ++ returningCalls) start .registers ≡ loaded
+unfolding bit isSet counterBits counts overflowsUp underflowsDown nested calledOf icrOf pcxiOf requests clearedOf wordAt wordsAt putWord putWords plusOf placedAt spotAt placedIn upperOf lowerOf roomAt takeOf foreseenOf saveAtOf saveOf loadedOf returnOf stackOf enteredOf trapEntry interruptEntry fcdOf betterOf bestBelow takes clearedAt enables permits firstOf anyFrom checkOf operationOf entryAt addressAfter lengthOf operationNumber entryFits entriesFrom tableOf recordHolds recordsFrom imageOf bodyWalk restFrom restOf instructionAt fetchOf windowHolds secondHolds apartHolds windowsVerdict stepVerdict calledThen callOf svlcxOf bisrThen bisrOf previousOf retOf rfeOf rslcxOf contextOp alignedReach reachOf storeOf actOf fetchingAt beginningOf decisionOf oneOf requestsOf stepOf runFrom runOf runArgs
 restored = refl
 
 pub stored : wordAt (afterAll calls start .memory .bytes) 320 ≡ 1
-unfolding bit isSet counterBits counts overflowsUp underflowsDown nested calledOf icrOf pcxiOf requests clearedOf wordAt wordsAt putWord putWords plusOf placedAt spotAt placedIn upperOf lowerOf roomAt takeOf foreseenOf saveAtOf saveOf loadOf returnOf stackOf enteredOf trapEntry interruptEntry fcdOf betterOf bestBelow takes clearedAt enables permits firstOf anyFrom checkOf operationOf entryAt addressAfter lengthOf operationNumber entryFits entriesFrom tableOf recordHolds recordsFrom imageOf bodyWalk restFrom restOf instructionAt fetchOf windowHolds secondHolds apartHolds windowsVerdict stepVerdict calledThen callOf svlcxOf bisrThen bisrOf previousOf retOf rfeOf rslcxOf contextOp alignedReach reachOf storeOf actOf fetchingAt beginningOf decisionOf oneOf requestsOf stepOf runFrom runOf runArgs
+unfolding bit isSet counterBits counts overflowsUp underflowsDown nested calledOf icrOf pcxiOf requests clearedOf wordAt wordsAt putWord putWords plusOf placedAt spotAt placedIn upperOf lowerOf roomAt takeOf foreseenOf saveAtOf saveOf loadedOf returnOf stackOf enteredOf trapEntry interruptEntry fcdOf betterOf bestBelow takes clearedAt enables permits firstOf anyFrom checkOf operationOf entryAt addressAfter lengthOf operationNumber entryFits entriesFrom tableOf recordHolds recordsFrom imageOf bodyWalk restFrom restOf instructionAt fetchOf windowHolds secondHolds apartHolds windowsVerdict stepVerdict calledThen callOf svlcxOf bisrThen bisrOf previousOf retOf rfeOf rslcxOf contextOp alignedReach reachOf storeOf actOf fetchingAt beginningOf decisionOf oneOf requestsOf stepOf runFrom runOf runArgs
 stored = refl

@@ -22,7 +22,7 @@ use Rattle.lists.specs.Lists.{count}
 use Rattle.lists.proofs.Counts.{same?, one-other}
 use Rattle.contexts.specs.Context.{upperOf, lowerOf}
 use Rattle.contexts.specs.Save.{roomAt, takeOf, foreseenOf, saveAtOf, saveOf}
-use Rattle.contexts.specs.Restore.{loadOf, returnOf}
+use Rattle.contexts.specs.Restore.{loadedOf, returnOf}
 use Rattle.entries.specs.Entry.{stackOf, enteredOf, trapEntry, interruptEntry, fcdOf}
 use Rattle.protection.specs.Range.{enables, permits, firstOf, anyFrom}
 use Rattle.protection.specs.Access.{checkOf}
@@ -82,6 +82,6 @@ still s h = record { stores = s; heads = h }
 
 -- the fifth step is refused
 pub quiet : AllQuiet (listed begun) (allArgs calls start)
-unfolding bit isSet counterBits counts overflowsUp underflowsDown nested calledOf icrOf pcxiOf requests clearedOf wordAt wordsAt putWord putWords plusOf placedAt spotAt placedIn upperOf lowerOf roomAt takeOf foreseenOf saveAtOf saveOf loadOf returnOf stackOf enteredOf trapEntry interruptEntry fcdOf betterOf bestBelow takes clearedAt enables permits firstOf anyFrom checkOf operationOf entryAt addressAfter lengthOf operationNumber entryFits entriesFrom tableOf recordHolds recordsFrom imageOf bodyWalk restFrom restOf instructionAt fetchOf windowHolds secondHolds apartHolds windowsVerdict stepVerdict calledThen callOf svlcxOf bisrThen bisrOf previousOf retOf rfeOf rslcxOf contextOp alignedReach reachOf storeOf actOf fetchingAt beginningOf oneOf requestsOf stepOf runFrom runOf runArgs stepHeads decisionOf
+unfolding bit isSet counterBits counts overflowsUp underflowsDown nested calledOf icrOf pcxiOf requests clearedOf wordAt wordsAt putWord putWords plusOf placedAt spotAt placedIn upperOf lowerOf roomAt takeOf foreseenOf saveAtOf saveOf loadedOf returnOf stackOf enteredOf trapEntry interruptEntry fcdOf betterOf bestBelow takes clearedAt enables permits firstOf anyFrom checkOf operationOf entryAt addressAfter lengthOf operationNumber entryFits entriesFrom tableOf recordHolds recordsFrom imageOf bodyWalk restFrom restOf instructionAt fetchOf windowHolds secondHolds apartHolds windowsVerdict stepVerdict calledThen callOf svlcxOf bisrThen bisrOf previousOf retOf rfeOf rslcxOf contextOp alignedReach reachOf storeOf actOf fetchingAt beginningOf oneOf requestsOf stepOf runFrom runOf runArgs stepHeads decisionOf
 quiet =
     (still tt refl, (still tt refl, (still away refl, (still tt refl, (tt, (still tt refl, (still tt refl, (still tt refl, (still tt refl, (still tt refl, (still tt refl, (still tt refl, tt))))))))))))

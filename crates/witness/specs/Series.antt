@@ -93,16 +93,16 @@ abbrev pub call : Kind → Image → List ℕ → List Range → Call
 call k i xs rs = record { kind = k; image = i; requests = xs; ranges = rs }
 
 -- an interrupt; then in a run the CALL with its FCD entry, the store, and the SVLCX that stops
-abbrev pub saving : List Call
-saving = call step interrupted requested opened ∷ call (run 5) depleting none opened ∷ []
+abbrev pub savingCalls : List Call
+savingCalls = call step interrupted requested opened ∷ call (run 5) depleting none opened ∷ []
 
 -- a refused step; then a run of five returns
-abbrev pub returning : List Call
-returning = call step nothing none opened ∷ call (run 5) unwinding none opened ∷ []
+abbrev pub returningCalls : List Call
+returningCalls = call step nothing none opened ∷ call (run 5) unwinding none opened ∷ []
 
 -- BISR; then the host closes all ranges, and the next fetch traps
 abbrev pub again : List Call
 again = call step onward none opened ∷ call step onward none closed ∷ []
 
 abbrev pub calls : List Call
-calls = saving ++ returning ++ again
+calls = savingCalls ++ returningCalls ++ again

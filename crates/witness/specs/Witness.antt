@@ -21,7 +21,7 @@ use Rattle.series.specs.Calls.{afterAll, Args, stepAt, allArgs}
 use Rattle.series.specs.Conditions.{movedAll, AllQuiet}
 use Rattle.series.specs.Claim.{Agree, listed, Claim}
 use Rattle.witness.specs.Start.{start}
-use Rattle.witness.specs.Series.{interrupted, saving, returning, calls}
+use Rattle.witness.specs.Series.{interrupted, savingCalls, returningCalls, calls}
 use Rattle.witness.specs.Lists.{begun, depleted, allFree, ended}
 
 abbrev pub outcomes : List Args → List Outcome
@@ -59,10 +59,10 @@ pub record Witness : Type 0 where
   pub quiet : AllQuiet (listed begun) (allArgs calls start)
   pub happened : outcomes (allArgs calls start) ≡ happening
   -- the abstract lists, as they come to be
-  pub no-area-left : movedAll (allArgs saving start) begun ≡ depleted
-  pub no-area-used : movedAll (allArgs (saving ++ returning) start) begun ≡ allFree
+  pub no-area-left : movedAll (allArgs savingCalls start) begun ≡ depleted
+  pub no-area-used : movedAll (allArgs (savingCalls ++ returningCalls) start) begun ≡ allFree
   pub after : movedAll (allArgs calls start) begun ≡ ended
-  pub restored : afterAll (saving ++ returning) start .registers ≡ loaded
+  pub restored : afterAll (savingCalls ++ returningCalls) start .registers ≡ loaded
   -- the word that was stored is there
   pub stored : wordAt (afterAll calls start .memory .bytes) 320 ≡ 1
   -- and so demand 3 has this case

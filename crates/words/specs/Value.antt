@@ -33,5 +33,5 @@ abbrev pub largestUnsigned : ℤ
 largestUnsigned = pos 0xFFFF_FFFF
 
 -- a shift count: the signed value of the low six bits, -32 to 31
-unfoldable pub count : ℕ → ℤ
-count b = cond (ltb (b % 64) 32) (pos (b % 64)) (pos (b % 64) -ℤ pos 64)
+unfoldable pub shiftCount : ℕ → ℤ
+shiftCount b = cond (ltb (b % 64) 32) (pos (b % 64)) (pos (b % 64) -ℤ pos 64)

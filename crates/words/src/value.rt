@@ -2,7 +2,7 @@
 
 ghost use mathlib.Core.Path.{_≡_};
 ghost use lib.IntN.{_+ℤ_, _-ℤ_, _*ℤ_};
-ghost use Rattle.words.specs.Value.{signed, low, within, clamp, count};
+ghost use Rattle.words.specs.Value.{signed, low, within, clamp, shiftCount};
 
 // The value of a word in two's complement. Half a turn up and down again: no branch on the sign.
 pub fn signed_value(w: u32) -> i64
@@ -40,7 +40,7 @@ pub fn clamped(lo: i64, hi: i64, z: i64) -> i64
 
 // A shift count: the signed low six bits.
 pub fn shift_count(b: u32) -> i32
-    ensures { λ r. ⌜ r ≡ count b ⌝ }
+    ensures { λ r. ⌜ r ≡ shiftCount b ⌝ }
 {
     let n = b % 64;
     if n < 32 { n as i32 } else { n as i32 - 64 }

@@ -10,7 +10,7 @@ use Rattle.memory.specs.Memory.{Memory, lent}
 use Rattle.fields.specs.Link.{linkOf}
 use Rattle.areas.specs.Link.{areaAddress}
 use Rattle.areas.specs.Place.{placeOf}
-use Rattle.lists.specs.Walk.{walkOf}
+use Rattle.lists.specs.Walk.{listWalk}
 use Rattle.fields.specs.declared.link.Link.{Link}
 use Rattle.areas.specs.declared.link.Place.the-variants.{At, Outside}
 use Rattle.areas.proofs.Places.{Within, placed-at}
@@ -22,7 +22,7 @@ use Rattle.lists.proofs.walk.Tie as tie
 
 abbrev Inv-loop : tie.InvT-loop
 Inv-loop base window base2 window2 met₀ l₀ met l =
-    (length met ≡ 2048) × (walkOf 2049 (lent base window base2 window2) l met ≡ walkOf 2049 (lent base window base2 window2) l₀ met₀)
+    (length met ≡ 2048) × (listWalk 2049 (lent base window base2 window2) l met ≡ listWalk 2049 (lent base window base2 window2) l₀ met₀)
 
 abbrev μ-loop : tie.MeasureT-loop
 μ-loop base window base2 window2 met₀ l₀ met l = unmet met
@@ -73,7 +73,7 @@ loop-again c =
     let l = d .before .before .before .before .before .before .loop in
     let on = walk-next (mem d) (link d) (l .met) (place d) (small d) (l .inv .0) (d .before .before .before .before .if1 .taken) (found d) (c .before .if2 .left) in (
       simp length-set (l .inv .0),
-      ap (λ (k : Link). walkOf 2049 (mem d) k (set (l .met) (place d / 64) true)) (c .next-link .ensures ∙ ap linkOf (first-word-placed (mem d) (link d) (place d) (found d))) ∙ sym on ∙ l .inv .1,
+      ap (λ (k : Link). listWalk 2049 (mem d) k (set (l .met) (place d / 64) true)) (c .next-link .ensures ∙ ap linkOf (first-word-placed (mem d) (link d) (place d) (found d))) ∙ sym on ∙ l .inv .1,
     )
 
 returns-3 : tie.Need-returns-3 Inv-loop μ-loop

@@ -5,7 +5,7 @@ use lib.ListN.{getD}
 use Rattle.memory.specs.Memory.{lent}
 use Rattle.fields.specs.Link.{linkOf}
 use Rattle.registers.specs.Core.{PCXI}
-use Rattle.contexts.specs.Restore.{loadOf}
+use Rattle.contexts.specs.Restore.{loadedOf}
 use Rattle.contexts.proofs.Returns.{read-area, read-64}
 use Rattle.contexts.proofs.restore.load_lower.Statement.{statement}
 use Rattle.contexts.proofs.restore.load_lower.Tie as tie
@@ -23,7 +23,7 @@ write-link-requires : tie.Need-write-link-requires
 write-link-requires c κs = c .before .before .before .before .before .before .before .before .before .before .before .before .before .before .before .pre .0
 
 returns : tie.Need-returns
-unfolding loadOf
+unfolding loadedOf
 returns c = (rw (c .before .before .before .before .before .before .before .before .before .before .before .read-words .ensures, c .before .before .before .before .before .before .before .before .before .read-words2 .ensures, c .before .before .before .before .before .before .before .word-at .ensures, read-area (lent (c .before .before .before .before .before .before .before .before .before .before .before .before .before .before .before .before .before .before .before .before .args .base) (c .before .before .before .before .before .before .before .before .before .before .before .before .before .before .before .before .before .before .before .before .args .window .now) (c .before .before .before .before .before .before .before .before .before .before .before .before .before .before .before .before .before .before .before .before .args .base2) (c .before .before .before .before .before .before .before .before .before .before .before .before .before .before .before .before .before .before .before .before .args .window2 .now)) (linkOf (getD (c .before .before .before .before .before .before .before .before .before .before .before .before .before .before .before .before .before .before .before .before .args .core .now) PCXI 0)) _ _ _ (c .before .before .before .before .before .before .before .before .before .before .before .before .before .area .ensures) (c .before .before .before .before .before .before .before .before .before .before .before .before .before .before .before .before .link-of .ensures) (c .before .before .before .before .before .before .before .before .before .before .before .before .before .before .before .before .before .before .before .before .pre .1), c .before .before .before .before .before .before .before .before .before .before .before .before .before .before .before .before .link-of .ensures, c .before .before .before .before .write-link .ensures .0), c .before .before .before .before .write-link .ensures .1)
 
 pub load-lower-spec : {M : Type 1} → statement M

@@ -7,7 +7,7 @@ use mathlib.Core.Bool.{true, not, _&&_}
 use lib.ListN.{getD}
 use Rattle.memory.specs.Word.{wordAt}
 use Rattle.image.specs.Table.{bodiesOf}
-use Rattle.image.specs.Records.{totalOf, recordsFrom, held}
+use Rattle.image.specs.Records.{totalOf, recordsFrom, allHold}
 use Rattle.image.specs.Marks.{longFrom, longOnly}
 use Rattle.image.proofs.Tests.{word-record, word-short}
 use Rattle.image.proofs.Images.{right-of, sized}
@@ -21,7 +21,7 @@ Inv-loop image n from count hold₀ long₀ k₀ hold long k =
     (from ≡ bodiesOf image)
     × (count ≡ totalOf image)
     × (k ≤ totalOf image)
-    × ((hold && held (recordsFrom (totalOf image - k) image (bodiesOf image + 8 * k) k)) ≡ held (recordsFrom (totalOf image) image (bodiesOf image) 0))
+    × ((hold && allHold (recordsFrom (totalOf image - k) image (bodiesOf image + 8 * k) k)) ≡ allHold (recordsFrom (totalOf image) image (bodiesOf image) 0))
     × ((long && longFrom (totalOf image - k) image (bodiesOf image + 8 * k)) ≡ longOnly image)
 
 abbrev μ-loop : tie.MeasureT-loop
