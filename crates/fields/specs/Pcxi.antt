@@ -1,5 +1,5 @@
 -- PCXI, the Previous Context Information (002, 3.3.3): PCPN 31:24, PIE 23, UL 22, link 19:0.
-use Prim.Native.Nat.{ℕ, _+_, _*_, _%_, _^_}
+use Prim.Native.Nat.{ℕ, _+_, _*_, _^_}
 use mathlib.Core.Bool.{Bool}
 use Rattle.words.specs.Bits.{number}
 use Rattle.fields.specs.Field.{isSet, field}
