@@ -1,5 +1,4 @@
 -- Laws of the decoding.
 pub mod Forms
 pub mod Table
-pub mod Accesses
 pub mod Compares
