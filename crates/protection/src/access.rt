@@ -46,15 +46,15 @@ fn asked(core: &[u32; CORE], address: Address) -> bool
 pub fn permit_for(core: &[u32; CORE], words: &[u32; 96], right: Right, address: Address) -> Permit
     ensures { λ r. ⌜ r ≡ permitOf (now (core .entry)) (rangesIn (now (words .entry))) right address ⌝ }
 {
-    if asked(core, address) {
-        return search(
-            words,
-            fields::psw::protection_set(core[PSW]),
-            right,
-            address,
-        );
+    if !asked(core, address) {
+        return Permit::Unnamed;
     }
-    Permit::Unnamed
+    search(
+        words,
+        fields::psw::protection_set(core[PSW]),
+        right,
+        address,
+    )
 }
 
 // Checks the access to an address.

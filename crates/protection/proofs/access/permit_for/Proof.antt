@@ -1,23 +1,24 @@
 -- `protection::access::permit_for` meets its contract. Assumes nothing.
 use borrow.Author.Needs.{needs}
 use mathlib.Core.Path.{sym, _∙_}
+use borrow.Author.Tests.{not-true, not-false}
 use Rattle.protection.proofs.Checks.{permit-asked, permit-unasked}
 use Rattle.protection.proofs.access.permit_for.Statement.{statement}
 use Rattle.protection.proofs.access.permit_for.Tie as tie
 
 returns : tie.Need-returns
-returns c = (rw (c .before .protection-set .ensures .0) at (c .search .ensures .0)) ∙ permit-asked _ _ _ _ (sym (c .before .before .before .before .asked .ensures) ∙ c .before .before .before .if1 .taken)
+returns c = permit-unasked _ _ _ _ (sym (c .before .asked .ensures) ∙ not-true _ (c .if1 .taken))
 
 returns-2 : tie.Need-returns-2
-returns-2 c = permit-unasked _ _ _ _ (sym (c .before .asked .ensures) ∙ c .if1 .left)
+returns-2 c = (rw (c .before .protection-set .ensures .0) at (c .search .ensures .0)) ∙ permit-asked _ _ _ _ (sym (c .before .before .before .before .asked .ensures) ∙ not-false _ (c .before .before .before .if1 .left))
 
 pub permit-for-spec : {M : Type 1} → statement M
 permit-for-spec =
     tie.close
     (tie.spec
     (λ c κs. search needs)
+    returns
     (λ c. search needs)
     (λ c κs. search needs)
     (λ c κs. search needs)
-    returns
     returns-2)
