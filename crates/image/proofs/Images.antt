@@ -147,6 +147,3 @@ right-of img e = subst (TableSays img) e (table-says img)
 
 pub sized : (img : List ℕ) → tableOf img ≡ table.Holds → Sized img
 sized img e = table-size img (right-of img e)
-
-pub table-holds : (img : List ℕ) → ImageHolds img → tableOf img ≡ table.Holds
-table-holds img e = table-only img (tableOf img) table.Holds (table-says img) (image-right img e .table)

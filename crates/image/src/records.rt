@@ -11,7 +11,7 @@ ghost use mathlib.Core.List.{List};
 ghost use Prim.Native.Nat.{ℕ, _+_, _*_, _/_, _%_, _<_};
 ghost use Rattle.operations.specs.Forms.{isShort, operationNumber};
 ghost use Rattle.image.specs.Table.{bodiesOf, tableOf};
-ghost use Rattle.image.specs.Records.{recordHolds, recordsFrom, allHold, totalOf, imageOf, ImageHolds};
+ghost use Rattle.image.specs.Records.{recordHolds, recordsFrom, allHold, totalOf, imageOf};
 ghost use Rattle.image.specs.Rules.{ImageSays};
 ghost use Rattle.image.specs.Marks.{longOnly, longIn};
 ghost use Rattle.words.specs.Exactly.{Exactly};
@@ -151,12 +151,4 @@ pub fn check_image(image: &[u8]) -> ImageCheck
     ensures { λ r. ⌜ (r ≡ imageOf (now (image .entry))) × Exactly (ImageSays (now (image .entry))) r ⌝ }
 {
     scan_image(image).check
-}
-
-// Whether an image that rules 2 and 3 accept has no short form.
-pub fn is_long(image: &[u8]) -> bool
-    requires { ⌜ ImageHolds (now image) ⌝ }
-    ensures { λ r. ⌜ r ≡ longOnly (now (image .entry)) ⌝ }
-{
-    scan_all(image).long
 }

@@ -22,8 +22,7 @@ use Rattle.decisions.specs.Decision.{oneOf}
 use Rattle.permits.specs.Permits.{noPermits, permitsOf}
 use Rattle.permits.specs.declared.Permits.{Permits}
 use Rattle.machine.specs.Step.{outcomeOf, verdictIn, StepOf, stepped, acceptedBy, steppedBy, stepOf}
-use Rattle.machine.specs.Inner.{Ready}
-use Rattle.machine.proofs.Turns.{accepted-step, ready-next}
+use Rattle.machine.proofs.Turns.{accepted-step}
 use Rattle.machine.specs.Run.{RunOf, ran, onward, runFrom, runOf, RefusedKeeps}
 use Rattle.machine.specs.declared.answer.Outcome.{Outcome}
 use Rattle.machine.specs.declared.answer.Outcome.the-variants as outcome
@@ -96,13 +95,3 @@ refused-keeps r xs m x y p = ap (λ (o : Outcome). ran o 0 r xs m) p
 pub not-refused : (e : Ending) {o : Outcome} → o ≡ outcomeOf e → (x : Refusal) → o ≡ outcome.Refused x → ⊥
 not-refused (ending.Made e) h x p = let z : _≡_ {A = ℕ} 0 1 = cc in omega arith
 not-refused (ending.Stopped s) h x p = let z : _≡_ {A = ℕ} 0 1 = cc in omega arith
-
--- an accepted machine stays accepted
-pub ready-after : {img : List ℕ} {r : Registers} {m : Memory} → Ready img r m → (xs : List ℕ) (rs : List Range) → (let s = stepOf img r xs rs m in Ready img (s .registers) (s .memory))
-ready-after {img} {r} {m} y xs rs =
-    let v = oneOf img r xs rs m in
-    rw (accepted-step img r xs rs m (y .accepted)) (by _ _ (v .ending) (v .registers) (v .memory) (ready-next y xs rs v refl))
-  where
-    by : (ys : List ℕ) (p : Permits) (e : Ending) (q : Registers) (n : Memory) → Ready img q n → (let s = acceptedBy r xs m ys p e q n in Ready img (s .registers) (s .memory))
-    by ys p (ending.Made e) q n z = z
-    by ys p (ending.Stopped s) q n z = y

@@ -28,8 +28,8 @@ ghost use Rattle.machine.specs.Step.{verdictIn, stepped, stepOf};
 ghost use Rattle.machine.specs.Run.{ran, runOf, RefusedKeeps};
 ghost use Rattle.machine.specs.Inner.{Ready};
 
-// A step of an accepted machine, for a caller that has tried these rules once, with what it knows of the image. The machine stays accepted.
-pub fn step_accepted(
+// A step of a machine that these rules accept, with what they told of the image.
+fn step_accepted(
     base: Address,
     window: &mut [u8],
     base2: Address,
@@ -43,7 +43,6 @@ pub fn step_accepted(
     requires { ⌜ Ready (now image) registers (lent base (now window) base2 (now window2)) ⌝ }
     requires { ⌜ (long ≡ true → longOnly (now image) ≡ true) ⌝ }
     ensures { λ r. ⌜ stepped (r .outcome) (r .registers) (r .requests) (lent base (now (window .exit)) base2 (now (window2 .exit))) (r .permits) ≡ stepOf (now (image .entry)) registers requests ranges (lent base (now (window .entry)) base2 (now (window2 .entry))) ⌝ }
-    ensures { λ r. ⌜ Ready (now (image .entry)) (r .registers) (lent base (now (window .exit)) base2 (now (window2 .exit))) ⌝ }
 {
     let words = flat(ranges);
     let mut d = registers.d;

@@ -1,9 +1,8 @@
 -- What a function leaves is its block in the buffer, with the promises that go with it.
 -- Assumes nothing.
 use Prim.Native.Nat.{ℕ, _^_, _≤_, _<_}
-use native.Mathlib.Omega.{arith}
 use native.Mathlib.Nat.{zero-add}
-use mathlib.Core.Path.{_≡_, refl, _∙_}
+use mathlib.Core.Path.{_≡_, _∙_}
 use mathlib.Core.Bool.{Bool, true, false}
 use mathlib.Core.List.{List}
 use lib.ListN.{length, replicate}
@@ -11,18 +10,15 @@ use mir.Syntax.{w8}
 use mir.Val.{Val}
 use denote.Laws.{Is}
 use denote.Plain.{UInt}
-use denote.Array.{Array}
 use borrow.Author.Tests.{lt-ltb, le-ltb}
 use Rattle.words.proofs.Truth.{never}
 use Rattle.registers.specs.Registers.{pc, fcx, pcxi}
 use Rattle.registers.specs.declared.Registers.{Registers}
-use Rattle.inputs.specs.Checks.{andThen, stepVerdict, startVerdict}
+use Rattle.inputs.specs.Checks.{startVerdict}
 use Rattle.inputs.specs.declared.verdict.Refusal.{Refusal}
 use Rattle.inputs.specs.declared.verdict.Verdict.{Verdict}
 use Rattle.inputs.specs.declared.verdict.Verdict.the-variants.{Accepted, Refused}
-use Rattle.machine.specs.Inner.{Ready}
-use Rattle.decisions.specs.Valid.{Bytes}
-use Rattle.decisions.proofs.Owned.{array-each, field-long}
+use Rattle.decisions.proofs.Owned.{field-long}
 use Rattle.walk.specs.Start.{windowOf, startBytes, startRegisters}
 use Rattle.walk.specs.Text.{headerText, refusedOf, longText}
 use Rattle.walk.specs.Written.{Written}
@@ -45,16 +41,12 @@ module _ (img : List ℕ) {w : List ℕ} {r : Registers} {xs : List ℕ} {made :
   abbrev here : Walk
   here = standing w r xs made over at
 
-  pub tells : (due : List ℕ) → with-rest img b ≡ due → (over ≡ false → Ready img r (windowOf w)) → Told b due img here out₀ out
-  tells due e y =
+  pub tells : (due : List ℕ) → with-rest img b ≡ due → Told b due img here out₀ out
+  tells due e =
       let f : with-rest img (block w r xs made over text) ≡ due = rw is at e in
-      (rw (is, at-end, k .bytes), record { bytes = rw (front k, at-end) f; fits = k .fits; ready = y })
+      (rw (is, at-end, k .bytes), record { bytes = rw (front k, at-end) f; fits = k .fits })
 
 -- ---- the first block
-accepted-first : (v u : Verdict) → andThen v u ≡ Accepted → v ≡ Accepted
-accepted-first Accepted u e = refl
-accepted-first (Refused x) u e = e
-
 module _ (img w : List ℕ) (r : Registers) (f : w ≡ startBytes) (e : r ≡ startRegisters img) where
   abbrev start : Bool → List ℕ → Block
   start over text = block w r (replicate 16 0) 0 over text
@@ -74,22 +66,18 @@ module _ (img w : List ℕ) (r : Registers) (f : w ≡ startBytes) (e : r ≡ st
   unfolding beginOf
   begin-accepted h g = let k = rw (f, e) at g in rw (le-ltb longest (length img) h, k, e, f)
 
-  pub start-step : verdict ≡ Accepted → stepVerdict (windowOf w) img (pc r) ≡ Accepted
-  unfolding startVerdict
-  start-step g = accepted-first _ _ g
-
   abbrev Begun : Bool → List ℕ → List ℕ → ℕ → Type 0
   Begun over out₀ out at = Told (beginOf img) (walkOf img) img (standing w r (replicate 16 0) 0 over at) out₀ out
 
   module _ {out₀ out : List ℕ} {most at : ℕ} where
     pub begun-long : longest < length img → Written out₀ 0 longText most out at → Begun true out₀ out at
-    begun-long h k = tells img (begin-long h) k _ (begin-whole img) (λ n. absurd (never n))
+    begun-long h k = tells img (begin-long h) k _ (begin-whole img)
 
     pub begun-refused : length img ≤ longest → (x : Refusal) → verdict ≡ Refused x → Written out₀ 0 (refusedOf x) most out at → Begun true out₀ out at
-    begun-refused h x g k = tells img (begin-refused h x g) k _ (begin-whole img) (λ n. absurd (never n))
+    begun-refused h x g k = tells img (begin-refused h x g) k _ (begin-whole img)
 
-    pub begun-accepted : length img ≤ longest → verdict ≡ Accepted → Written out₀ 0 headerText most out at → Ready img r (windowOf w) → Begun false out₀ out at
-    begun-accepted h g k y = tells img (begin-accepted h g) k _ (begin-whole img) (λ n. y)
+    pub begun-accepted : length img ≤ longest → verdict ≡ Accepted → Written out₀ 0 headerText most out at → Begun false out₀ out at
+    begun-accepted h g k = tells img (begin-accepted h g) k _ (begin-whole img)
 
 -- ---- the next one
 -- what `go_on` promises, in its clauses' order
@@ -101,20 +89,17 @@ module _ (img : List ℕ) (v : Walk) (more : v .over ≡ false) {out₀ out : Li
   unfolding goOnOf
   is-next = d .is
 
-  pub goes : (over ≡ false → Ready img r (windowOf w)) → (over ≡ false → v .made < made) → (over ≡ false → made ≤ allSteps) → Gone img v (standing w r xs made over at) out₀ out
-  goes y h l = let t = tells img is-next (d .wrote) _ (next-whole img v more) y in (t .0, (t .1, record { more = h; most = l }))
+  pub goes : (over ≡ false → v .made < made) → (over ≡ false → made ≤ allSteps) → Gone img v (standing w r xs made over at) out₀ out
+  goes h l = let t = tells img is-next (d .wrote) _ (next-whole img v more) in (t .0, (t .1, record { more = h; most = l }))
 
 -- of a walk that is over nothing more is asked
 pub goes-last : (img : List ℕ) (v : Walk) → v .over ≡ false → {out₀ out : List ℕ} {made : ℕ} {r : Registers} {xs w : List ℕ} {at : ℕ} → Done img (v .made) (v .registers) (v .requests) (v .window) out₀ out made true r xs w at
     → Gone img v (standing w r xs made true at) out₀ out
-goes-last img v more d = goes img v more d (λ n. absurd (never n)) (λ n. absurd (never n)) (λ n. absurd (never n))
+goes-last img v more d = goes img v more d (λ n. absurd (never n)) (λ n. absurd (never n))
 
 -- ---- the window as an array of bytes
 byte : (v : ℕ) (us : List Val) → Is (UInt w8) v us → v < 2 ^ 8
 byte v us p = p .1
-
-pub window-bytes : {n : ℕ} {xs : List ℕ} {vs : List Val} → Is (Array (UInt w8) n) xs vs → Bytes xs
-window-bytes {n} {xs} {vs} p = record { each = λ k. array-each (UInt w8) (λ (v : ℕ). v < 2 ^ 8) byte n xs vs p k 0 (omega arith) }
 
 pub window-long : (w : Walk) {vs : List Val} → Is (row.the-row) w vs → length (w .window) ≡ 4096
 window-long w p = field-long (UInt w8) ℕ (λ v. v) (λ (v : ℕ). v < 2 ^ 8) byte 4096 (w .window) (p .0 .0) (p .1 .1 .0)

@@ -2,7 +2,7 @@
 -- Assumes nothing.
 use Prim.Native.Nat.{ℕ}
 use native.Mathlib.Omega.{arith}
-use mathlib.Core.Path.{_≡_, sym, ap, subst, _∙_}
+use mathlib.Core.Path.{_≡_, sym, ap, _∙_}
 use mathlib.Core.List.{List, [], _∷_, append-nil}
 use lib.ListN.{length}
 use Rattle.memory.specs.Address.{asAddress}
@@ -11,7 +11,6 @@ use Rattle.registers.specs.declared.Registers.{Registers}
 use Rattle.protection.specs.declared.range.Range.{Range}
 use Rattle.permits.specs.declared.Permits.{Permits}
 use Rattle.machine.specs.Step.{stepped, stepOf}
-use Rattle.machine.specs.Inner.{Ready}
 use Rattle.machine.specs.declared.answer.Outcome.{Outcome}
 use Rattle.walk.specs.Start.{windowOf}
 
@@ -24,6 +23,3 @@ module _ (w′ x′ : List ℕ) (none : length x′ ≡ 0) where
       → stepped o q ys (lent (asAddress 0xD000_0000) w′ (asAddress 0) x′) p ≡ stepOf img r xs rs (lent (asAddress 0xD000_0000) w (asAddress 0) []) → stepped o q ys (windowOf w′) p ≡ stepOf img r xs rs (windowOf w)
   single-step img r xs rs w {q} {ys} {o} {p} e =
       ap (λ (m : Memory). stepped o q ys m p) (sym (single w′ x′ none)) ∙ e ∙ ap (λ (m : Memory). stepOf img r xs rs m) (ap (memory (windows (asAddress 0xD000_0000) (length w) (asAddress 0))) (append-nil w))
-
-  pub single-ready : {img : List ℕ} {q : Registers} → Ready img q (lent (asAddress 0xD000_0000) w′ (asAddress 0) x′) → Ready img q (windowOf w′)
-  single-ready {img} {q} y = subst (λ (m : Memory). Ready img q m) (single w′ x′ none) y

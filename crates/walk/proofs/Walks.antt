@@ -15,7 +15,6 @@ use Rattle.protection.specs.declared.range.Range.{Range}
 use Rattle.inputs.specs.declared.verdict.Refusal.{Refusal}
 use Rattle.permits.specs.declared.Permits.{Permits}
 use Rattle.machine.specs.Step.{StepOf, stepped, stepOf}
-use Rattle.machine.specs.Inner.{Ready}
 use Rattle.machine.specs.declared.answer.Outcome.{Outcome}
 use Rattle.machine.specs.declared.answer.Outcome.the-variants.{Made, Stopped, Refused}
 use Rattle.walk.specs.Start.{windowOf, noRanges}
@@ -50,7 +49,6 @@ module _ (img : List ℕ) (made₀ : ℕ) (r₀ : Registers) (xs₀ w₀ out₀ 
   due = blockFrom (allSteps - made₀) img made₀ r₀ xs₀ w₀ []
 
   pub record Turn (out : List ℕ) (made : ℕ) (r : Registers) (xs w : List ℕ) (at : ℕ) : Type 0 where
-    pub ready : Ready img r (windowOf w)
     pub size : length w ≡ 4096
     pub since : made₀ ≤ made
     pub bound : at ≤ 65449
@@ -65,10 +63,9 @@ module _ (img : List ℕ) (made₀ : ℕ) (r₀ : Registers) (xs₀ w₀ out₀ 
     pub wrote : Written out₀ 0 text most out at
     pub is : due ≡ block w r xs made over text
 
-  pub turn-start : Ready img r₀ (windowOf w₀) → length w₀ ≡ 4096 → Turn out₀ made₀ r₀ xs₀ w₀ 0
-  turn-start y s =
+  pub turn-start : length w₀ ≡ 4096 → Turn out₀ made₀ r₀ xs₀ w₀ 0
+  turn-start s =
       record {
-        ready = y;
         size = s;
         since = omega arith;
         bound = omega arith;
@@ -92,10 +89,9 @@ module _ (img : List ℕ) (made₀ : ℕ) (r₀ : Registers) (xs₀ w₀ out₀ 
         abbrev pub line : List ℕ
         line = lineOf v (pc r) (pc r′) (fcx r′) (pcxi r′)
 
-        pub on : {out′ : List ℕ} {at′ : ℕ} → Ready img r′ (windowOf w′) → length w′ ≡ length w → Written out at line 41 out′ at′ → isTrap v ≡ false → Turn out′ (made + 1) r′ xs′ w′ at′
-        on {out′} {at′} y l k f =
+        pub on : {out′ : List ℕ} {at′ : ℕ} → length w′ ≡ length w → Written out at line 41 out′ at′ → isTrap v ≡ false → Turn out′ (made + 1) r′ xs′ w′ at′
+        on {out′} {at′} l k f =
             record {
-              ready = y;
               size = l ∙ t .size;
               since = omega (arith, t .since);
               bound = omega (arith, k .room);

@@ -10,10 +10,9 @@ use Rattle.registers.specs.Registers.{pc}
 use Rattle.registers.specs.declared.Registers.{Registers}
 use Rattle.inputs.specs.declared.verdict.Verdict.{Verdict}
 use Rattle.inputs.specs.declared.verdict.Verdict.the-variants as verdict
-use Rattle.machine.specs.Inner.{Ready}
 use Rattle.machine.specs.declared.answer.Outcome.{Outcome}
 use Rattle.machine.specs.declared.answer.Outcome.the-variants.{Made, Stopped, Refused}
-use Rattle.walk.specs.Start.{windowOf, startBytes, startRegisters, startVerdictOf}
+use Rattle.walk.specs.Start.{startBytes, startRegisters, startVerdictOf}
 use Rattle.walk.specs.Text.{headerText, endOf, refusedOf, longText}
 use Rattle.walk.specs.Walk.{longest, allSteps, isLast, stepFrom, printed, walkFrom}
 use Rattle.walk.specs.declared.blocks.Walk.{Walk}
@@ -79,11 +78,10 @@ goOnOf img w = blockFrom (allSteps - w .made) img (w .made) (w .registers) (w .r
 unfoldable pub remaining : List ℕ → Walk → List ℕ
 remaining img w = cond (w .over) [] (walkFrom (allSteps - w .made) img (w .made) (w .registers) (w .requests) (w .window))
 
--- a block's bytes, followed by those still to be printed, are those that were due; and a walk that is not over can be gone on with
+-- a block's bytes, followed by those still to be printed, are those that were due
 pub record Part (due img : List ℕ) (w : Walk) (out : List ℕ) : Type 0 where
   pub bytes : take (w .len) out ++ remaining img w ≡ due
   pub fits : w .len ≤ length out
-  pub ready : w .over ≡ false → Ready img (w .registers) (windowOf (w .window))
 
 -- each block makes a step or is the last one, so that the blocks end
 pub record Onward (before after : Walk) : Type 0 where

@@ -4,16 +4,13 @@ use crate::start::BASE;
 use inputs::checks::try_start;
 use inputs::verdict::Verdict;
 use machine::answer::Stepped;
-use machine::steps::step_accepted;
+use machine::steps::step;
 use memory::address::Address;
 use protection::range::Range;
 use registers::Registers;
 ghost use mathlib.Core.Path.{_≡_};
-ghost use mathlib.Core.Bool.{true};
-ghost use Rattle.image.specs.Marks.{longOnly};
 ghost use Rattle.inputs.specs.Checks.{startVerdict};
 ghost use Rattle.machine.specs.Step.{stepped, stepOf};
-ghost use Rattle.machine.specs.Inner.{Ready};
 ghost use Rattle.walk.specs.Start.{windowOf};
 
 // Any address: the second window has no bytes.
@@ -29,24 +26,19 @@ pub fn try_alone(window: &[u8], image: &[u8], pc: u32, fcx: u32, pcxi: u32) -> V
 pub fn step_alone(
     window: &mut [u8],
     image: &[u8],
-    long: bool,
     registers: Registers,
     requests: [u32; 16],
     ranges: [Range; 32],
 ) -> Stepped
-    requires { ⌜ Ready (now image) registers (windowOf (now window)) ⌝ }
-    requires { ⌜ (long ≡ true → longOnly (now image) ≡ true) ⌝ }
     ensures { λ r. ⌜ stepped (r .outcome) (r .registers) (r .requests) (windowOf (now (window .exit))) (r .permits) ≡ stepOf (now (image .entry)) registers requests ranges (windowOf (now (window .entry))) ⌝ }
-    ensures { λ r. ⌜ Ready (now (image .entry)) (r .registers) (windowOf (now (window .exit))) ⌝ }
 {
     let mut none = [0; 0];
-    step_accepted(
+    step(
         BASE,
         window,
         NONE,
         &mut none,
         image,
-        long,
         registers,
         requests,
         ranges,

@@ -12,7 +12,6 @@ use crate::start::no_ranges;
 use crate::start::start_registers;
 use crate::start::start_window;
 use events::event::Event;
-use image::records::is_long;
 use inputs::verdict::Verdict;
 use machine::answer::Outcome;
 use registers::FCX;
@@ -21,8 +20,6 @@ use registers::PCXI;
 use registers::Registers;
 ghost use mathlib.Core.Path.{_≡_};
 ghost use mathlib.Core.Bool.{false};
-ghost use Rattle.machine.specs.Inner.{Ready};
-ghost use Rattle.walk.specs.Start.{windowOf};
 ghost use Rattle.walk.specs.Walk.{isTrap, walkOf};
 ghost use Rattle.walk.specs.Blocks.{left, placed, beginOf, goOnOf, remaining, Part, Onward};
 
@@ -103,14 +100,12 @@ pub fn begin(image: &[u8], out: &mut [u8; 65536]) -> Walk
 
 // The next block of a walk that is not over.
 pub fn go_on(image: &[u8], w: Walk, out: &mut [u8; 65536]) -> Walk
-    requires { ⌜ Ready (now image) (w .registers) (windowOf (w .window)) ⌝ }
     requires { ⌜ w .over ≡ false ⌝ }
     ensures { λ r. ⌜ left r (now (out .exit)) ≡ placed (goOnOf (now (image .entry)) w) (now (out .entry)) ⌝ }
     ensures { λ r. ⌜ Part (remaining (now (image .entry)) w) (now (image .entry)) r (now (out .exit)) ⌝ }
     ensures { λ r. ⌜ Onward w r ⌝ }
 {
     let ranges = no_ranges();
-    let long = is_long(image);
     let mut window = w.window;
     let mut registers = w.registers;
     let mut requests = w.requests;
@@ -128,7 +123,7 @@ pub fn go_on(image: &[u8], w: Walk, out: &mut [u8; 65536]) -> Walk
             };
         }
         let pc = registers.core[PC];
-        let s = step_alone(&mut window, image, long, registers, requests, ranges);
+        let s = step_alone(&mut window, image, registers, requests, ranges);
         registers = s.registers;
         requests = s.requests;
         let outcome = s.outcome;

@@ -48,7 +48,7 @@ same-length-4 : tie.Need-same-length-4
 same-length-4 c = search needs
 
 returns-2 : tie.Need-returns-2
-returns-2 c = let e = c .before .before .before .before .step-accepted .ensures in (e .0, step-told _ _ _ _ _ (e .0))
+returns-2 c = let e = c .before .before .before .before .step-accepted .ensures in (e, step-told _ _ _ _ _ e)
 
 pub step-spec : {M : Type 1} → statement M
 step-spec =

@@ -1,10 +1,7 @@
 -- `machine::steps::step_accepted` meets its contract. Assumes nothing.
-use mathlib.Core.Path.{sym, subst}
-use Rattle.machine.specs.Step.{StepOf}
-use Rattle.machine.specs.Inner.{Ready}
 use Rattle.machine.proofs.Turns.{image-holds}
 use Rattle.machine.proofs.Guides.{unmarked}
-use Rattle.machine.proofs.Singles.{accepted-one, ready-after}
+use Rattle.machine.proofs.Singles.{accepted-one}
 use borrow.Author.Needs.{needs}
 use Rattle.machine.proofs.steps.step_accepted.Statement.{statement}
 use Rattle.machine.proofs.steps.step_accepted.Tie as tie
@@ -35,7 +32,7 @@ returns c =
     let y = c .before .before .before .before .before .before .before .before .before .before .before .before .before .before .before .before .before .before .before .before .before .before .before .before .before .before .pre .0 in
     let f = c .before .before .before .before .before .before .before .before .before .before .before .before .before .before .before .before .before .before .before .before .before .before .flat .ensures in
     let s = accepted-one _ _ _ _ _ (y .accepted) (rw f at (c .before .before .before .before .before .run-steps .ensures)) (rw f at (c .before .before .before .before .before .before .before .before .before .before .before .before .before .before .permits-of .ensures .0)) in
-    (rw (c .outcome-of .ensures) s, subst (λ (v : StepOf). Ready (c .before .before .before .before .before .before .before .before .before .before .before .before .before .before .before .before .before .before .before .before .before .before .before .before .before .before .args .image .now) (v .registers) (v .memory)) (sym s) (ready-after y _ _))
+    rw (c .outcome-of .ensures) s
 
 pub step-accepted-spec : {M : Type 1} → statement M
 step-accepted-spec =

@@ -1,9 +1,7 @@
 -- `walk::blocks::begin` meets its contract. Assumes nothing.
 use borrow.Author.Needs.{needs}
 use mathlib.Core.Path.{sym, _∙_}
-use Rattle.decisions.proofs.Known.{valid-of, bytes-of}
-use Rattle.machine.proofs.Turns.{accepted-even}
-use Rattle.walk.proofs.Promises.{begun-long, begun-refused, begun-accepted, start-step, window-bytes}
+use Rattle.walk.proofs.Promises.{begun-long, begun-refused, begun-accepted}
 use Rattle.walk.proofs.blocks.begin.Statement.{statement}
 use Rattle.walk.proofs.blocks.begin.Tie as tie
 
@@ -18,8 +16,7 @@ returns-3 c =
     let g = sym (c .before .before .before .before .try-alone .ensures) ∙ c .before .before .enum-told .given .1 in
     let f = c .before .before .before .before .before .before .before .before .before .before .before .start-window .ensures in
     let e = c .before .before .before .before .before .before .before .before .before .before .start-registers .ensures in
-    let a = start-step _ _ _ f e g in
-    begun-accepted _ _ _ f e (c .before .before .before .before .before .before .before .before .before .if1 .left) g (c .put-header .ensures) (record { accepted = a; image = bytes-of (c .before .before .before .before .before .before .before .before .before .before .before .before .shared-slice-known .given); valid = valid-of (c .before .before .before .before .before .before .before .before .before .before .start-registers .ok) (accepted-even _ _ _ a); bytes = window-bytes (c .before .before .before .before .before .before .before .before .before .before .before .start-window .ok) })
+    begun-accepted _ _ _ f e (c .before .before .before .before .before .before .before .before .before .if1 .left) g (c .put-header .ensures)
 
 pub begin-spec : {M : Type 1} → statement M
 begin-spec =
