@@ -183,19 +183,20 @@ pub enum Access {
     Write,
 }
 
-pub fn access_of(op: Operation) -> Access
-    ensures { λ r. ⌜ r ≡ accessOf op ⌝ }
+// Of the operation with a number.
+pub fn access_of(number: u8) -> Access
+    ensures { λ r. ⌜ r ≡ accessOf (operationOf number) ⌝ }
 {
-    match op {
-        Operation::Nop => Access::Nothing,
-        Operation::Integer(_) => Access::Nothing,
-        Operation::Move(_) => Access::Nothing,
-        Operation::Load(_) => Access::Read,
-        Operation::Store(_) => Access::Write,
-        Operation::Jump(_) => Access::Nothing,
-        Operation::Context(_) => Access::Nothing,
-        Operation::System(_) => Access::Nothing,
+    if number < 44 {
+        return Access::Nothing;
     }
+    if number < 50 {
+        return Access::Read;
+    }
+    if number < 54 {
+        return Access::Write;
+    }
+    Access::Nothing
 }
 
 // Whether a number is that of an operation.

@@ -1,50 +1,23 @@
 -- What a check answers, case by case.
 -- Assumes nothing.
 use Prim.Native.Nat.{ℕ, _≤_, _<_}
-use mathlib.Core.Path.{_≡_, sym, _∙_}
+use mathlib.Core.Path.{_≡_}
 use mathlib.Core.Bool.{true, false}
-use native.Mathlib.Nat.{lt-of-not-le}
-use native.Mathlib.Decide.{decLe}
 use mathlib.Core.List.{List}
 use lib.ListN.{getD}
 use borrow.Author.Tests.{le-leb, lt-leb}
-use Rattle.words.proofs.Truth.{never}
 use Rattle.fields.specs.Psw.{PSW·PRS, isUser0}
 use Rattle.fields.specs.Syscon.{SYSCON·PROTEN}
 use Rattle.memory.specs.declared.address.Address.{Address}
 use Rattle.events.specs.Traps.{MPP}
-use Rattle.protection.specs.Range.{permitted, lowestOf, PermittedBy}
-use Rattle.protection.specs.Access.{deniedOf, checkOf, asks, permitOf}
+use Rattle.protection.specs.Range.{permitted, PermittedBy}
+use Rattle.protection.specs.Access.{deniedOf, checkOf}
 use Rattle.protection.specs.declared.range.Range.{Range}
 use Rattle.protection.specs.declared.range.Right.{Right}
-use Rattle.protection.specs.declared.range.Permit.the-variants.{Unnamed}
 use Rattle.protection.specs.declared.access.Check.the-variants.{Passes, Fails}
 use Rattle.protection.proofs.Searches.{permitted-by}
 
--- the ranges are asked below the peripherals, with protection on
-module _ (core : List ℕ) (address : Address) where
-  pub unasked-above : 0xE000_0000 ≤ address .0 → false ≡ asks core address
-  unasked-above h = rw (le-leb _ _ h)
-
-  pub asked-by : address .0 < 0xE000_0000 → SYSCON·PROTEN (getD core 9 0) ≡ asks core address
-  asked-by h = rw (lt-leb _ _ h)
-
-  pub asked-below : asks core address ≡ true → address .0 < 0xE000_0000
-  asked-below e = by (decLe 0xE000_0000 (address .0))
-    where
-      by : Dec (0xE000_0000 ≤ address .0) → address .0 < 0xE000_0000
-      by (yes h) = absurd (never (sym e ∙ sym (unasked-above h)))
-      by (no h) = lt-of-not-le h
-
 module _ (core : List ℕ) (rs : List Range) (right : Right) (address : Address) where
-  pub permit-asked : asks core address ≡ true → lowestOf rs (PSW·PRS (getD core 1 0)) right address ≡ permitOf core rs right address
-  unfolding permitOf
-  permit-asked e = rw e
-
-  pub permit-unasked : asks core address ≡ false → Unnamed ≡ permitOf core rs right address
-  unfolding permitOf
-  permit-unasked e = rw e
-
   pub for-peripherals : 0xE000_0000 ≤ address .0 → isUser0 (getD core 1 0) ≡ true → Fails MPP ≡ checkOf core rs right address
   unfolding checkOf
   for-peripherals h u = rw (le-leb _ _ h, u)

@@ -14,7 +14,7 @@ use registers::PSW;
 use registers::SYSCON;
 ghost use mathlib.Core.Path.{_≡_};
 ghost use Rattle.protection.specs.Range.{rangesIn};
-ghost use Rattle.protection.specs.Access.{deniedOf, asks, permitOf, checkOf};
+ghost use Rattle.protection.specs.Access.{deniedOf, checkOf};
 
 pub enum Check {
     Passes,
@@ -32,54 +32,26 @@ fn denied(right: Right) -> Trap
     }
 }
 
-// Whether an access is asked of the ranges: below the peripherals, with protection on.
-fn asked(core: &[u32; CORE], address: Address) -> bool
-    ensures { λ r. ⌜ r ≡ asks (now (core .entry)) address ⌝ }
-{
-    if 0xE000_0000 <= address.0 {
-        return false;
-    }
-    fields::syscon::protection(core[SYSCON])
-}
-
-// The lowest range of set PRS that permits the access, where the ranges are asked and one does.
-pub fn permit_for(core: &[u32; CORE], words: &[u32; 96], right: Right, address: Address) -> Permit
-    ensures { λ r. ⌜ r ≡ permitOf (now (core .entry)) (rangesIn (now (words .entry))) right address ⌝ }
-{
-    if !asked(core, address) {
-        return Permit::Unnamed;
-    }
-    search(
-        words,
-        fields::psw::protection_set(core[PSW]),
-        right,
-        address,
-    )
-}
-
 // Checks the access to an address.
 pub fn check_access(core: &[u32; CORE], words: &[u32; 96], right: Right, address: Address) -> Check
     ensures { λ r. ⌜ r ≡ checkOf (now (core .entry)) (rangesIn (now (words .entry))) right address ⌝ }
 {
-    if asked(core, address) {
-        match search(
-            words,
-            fields::psw::protection_set(core[PSW]),
-            right,
-            address,
-        ) {
-            Permit::Unnamed => {
-                return Check::Fails(denied(right));
-            }
-            Permit::By(_) => {
-                return Check::Passes;
-            }
-        }
-    }
     if 0xE000_0000 <= address.0 {
         if fields::psw::user0(core[PSW]) {
             return Check::Fails(MPP);
         }
+        return Check::Passes;
     }
-    Check::Passes
+    if !fields::syscon::protection(core[SYSCON]) {
+        return Check::Passes;
+    }
+    match search(
+        words,
+        fields::psw::protection_set(core[PSW]),
+        right,
+        address,
+    ) {
+        Permit::Unnamed => Check::Fails(denied(right)),
+        Permit::By(_) => Check::Passes,
+    }
 }

@@ -1,46 +1,42 @@
 -- `protection::access::check_access` meets its contract. Assumes nothing.
 use borrow.Author.Needs.{needs}
 use mathlib.Core.Path.{sym, _∙_}
-use Rattle.protection.proofs.Checks.{asked-below, asked-by, for-peripherals, to-peripherals, unasked, denied, allowed}
+use borrow.Author.Tests.{not-true, not-false}
+use Rattle.protection.proofs.Checks.{for-peripherals, to-peripherals, unasked, denied, allowed}
 use Rattle.protection.proofs.access.check_access.Statement.{statement}
 use Rattle.protection.proofs.access.check_access.Tie as tie
 
 returns : tie.Need-returns
-returns c =
-    let e = sym (c .before .before .before .before .before .before .before .asked .ensures) ∙ c .before .before .before .before .before .before .if1 .taken in
-    let h = asked-below (c .before .before .before .before .before .before .before .before .args .core .now) (c .before .before .before .before .before .before .before .before .args .address) e in
-    rw (c .denied .ensures) (denied _ _ _ _ h (asked-by (c .before .before .before .before .before .before .before .before .args .core .now) (c .before .before .before .before .before .before .before .before .args .address) h ∙ e) (rw (← c .before .before .before .before .protection-set .ensures .0) (rw (c .before .enum-told .given .1) at (c .before .before .before .search .ensures .1 .says))))
+returns c = for-peripherals _ _ _ _ (c .before .before .before .if1 .taken) (sym (c .before .user0 .ensures) ∙ c .if2 .taken)
 
 returns-2 : tie.Need-returns-2
-returns-2 c =
-    let e = sym (c .before .before .before .before .before .before .asked .ensures) ∙ c .before .before .before .before .before .if1 .taken in
-    let h = asked-below (c .before .before .before .before .before .before .before .args .core .now) (c .before .before .before .before .before .before .before .args .address) e in
-    allowed _ _ _ _ (c .enum-told2 .given .0 .0) h (asked-by (c .before .before .before .before .before .before .before .args .core .now) (c .before .before .before .before .before .before .before .args .address) h ∙ e) (rw (← c .before .before .before .protection-set .ensures .0) ((rw (c .enum-told2 .given .1) at (c .before .before .search .ensures .1 .says)) .one))
+returns-2 c = to-peripherals _ _ _ _ (c .before .before .before .if1 .taken) (sym (c .before .user0 .ensures) ∙ c .if2 .left)
 
 returns-3 : tie.Need-returns-3
-returns-3 c = for-peripherals _ _ _ _ (c .before .before .before .if2 .taken) (sym (c .before .user0 .ensures) ∙ c .if3 .taken)
+returns-3 c = unasked _ _ _ _ (c .before .before .before .if1 .left) (sym (c .before .protection .ensures) ∙ not-true _ (c .if3 .taken))
 
 returns-4 : tie.Need-returns-4
-returns-4 c = to-peripherals _ _ _ _ (c .before .before .before .if2 .taken) (sym (c .before .user0 .ensures) ∙ c .if3 .left)
+returns-4 c = rw (c .denied .ensures) (denied _ _ _ _ (c .before .before .before .before .before .before .before .before .before .if1 .left) (sym (c .before .before .before .before .before .before .before .protection .ensures) ∙ not-false _ (c .before .before .before .before .before .before .if3 .left)) (rw (← c .before .before .before .before .protection-set .ensures .0) (rw (c .before .enum-told .given .1) at (c .before .before .before .search .ensures .1 .says))))
 
 returns-5 : tie.Need-returns-5
-returns-5 c = unasked _ _ _ _ (c .if2 .left) (asked-by (c .before .before .before .before .args .core .now) (c .before .before .before .before .args .address) (c .if2 .left) ∙ sym (c .before .before .before .asked .ensures) ∙ c .before .before .if1 .left)
+returns-5 c = allowed _ _ _ _ (c .enum-told2 .given .0 .0) (c .before .before .before .before .before .before .before .before .if1 .left) (sym (c .before .before .before .before .before .before .protection .ensures) ∙ not-false _ (c .before .before .before .before .before .if3 .left)) (rw (← c .before .before .before .protection-set .ensures .0) ((rw (c .enum-told2 .given .1) at (c .before .before .search .ensures .1 .says)) .one))
 
 pub check-access-spec : {M : Type 1} → statement M
 check-access-spec =
     tie.close
     (tie.spec
-    (λ c κs. search needs)
-    (λ c. search needs)
-    (λ c κs. search needs)
-    (λ c κs. search needs)
     (λ c. search needs)
     (λ c κs. search needs)
     returns
-    (λ c. search needs)
     returns-2
     (λ c. search needs)
     (λ c κs. search needs)
     returns-3
+    (λ c. search needs)
+    (λ c κs. search needs)
+    (λ c κs. search needs)
+    (λ c. search needs)
+    (λ c κs. search needs)
+    (λ c. search needs)
     returns-4
     returns-5)
