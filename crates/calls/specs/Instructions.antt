@@ -1,6 +1,4 @@
 -- CALL to SYSCALL.
-use Prim.Native.Nat.{ℕ}
-use mathlib.Core.Bool.{Bool, true, false}
 use Rattle.operations.specs.declared.Context.{Context}
 use Rattle.operations.specs.declared.Context.the-variants.{Call, Calli, Ret, Rfe, Svlcx, Rslcx, Bisr, Syscall}
 use Rattle.image.specs.declared.fetch.Instruction.{Instruction}
@@ -11,30 +9,10 @@ use Rattle.acts.specs.Acts.{Act, Ends, TrapsAfter}
 use Rattle.calls.specs.Saves.{callOf, svlcxOf, bisrOf}
 use Rattle.calls.specs.Returns.{retOf, rfeOf, rslcxOf}
 
--- where a call goes: CALL to PC plus immediate, CALLI to A[a] as before the step
-abbrev pub targetOf : Context → Instruction → Registers → ℕ
-targetOf Call i r = plusOf (pc r) (i .imm)
-targetOf Calli i r = A r (i .a)
-targetOf Ret i r = pc r
-targetOf Rfe i r = pc r
-targetOf Svlcx i r = pc r
-targetOf Rslcx i r = pc r
-targetOf Bisr i r = pc r
-targetOf Syscall i r = pc r
-
-abbrev pub isBisr : Context → Bool
-isBisr Call = false
-isBisr Calli = false
-isBisr Ret = false
-isBisr Rfe = false
-isBisr Svlcx = false
-isBisr Rslcx = false
-isBisr Bisr = true
-isBisr Syscall = false
-
 unfoldable pub contextOp : Context → Instruction → Registers → Act
-contextOp Call i r = callOf (targetOf Call i r) (i .next) r
-contextOp Calli i r = callOf (targetOf Calli i r) (i .next) r
+-- CALL goes to PC plus immediate, CALLI to A[a] as before the step
+contextOp Call i r = callOf (plusOf (pc r) (i .imm)) (i .next) r
+contextOp Calli i r = callOf (A r (i .a)) (i .next) r
 contextOp Ret i r = retOf r
 contextOp Rfe i r = rfeOf r
 contextOp Svlcx i r = svlcxOf (i .next)

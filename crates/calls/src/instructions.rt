@@ -15,43 +15,34 @@ use registers::CORE;
 use registers::PC;
 use registers::plus;
 ghost use mathlib.Core.Path.{_≡_};
+ghost use mathlib.Core.Bool.{true, false};
+ghost use lib.ListN.{getD};
 ghost use Rattle.memory.specs.Memory.{lent};
-ghost use Rattle.registers.specs.Registers.{registers};
+ghost use Rattle.registers.specs.Registers.{registers, plusOf};
+ghost use Rattle.registers.specs.Core.{PC};
 ghost use Rattle.image.specs.Fetch.{FieldsHold};
 ghost use Rattle.acts.specs.Acts.{did, performOf};
-ghost use Rattle.calls.specs.Instructions.{targetOf, isBisr, contextOp};
+ghost use Rattle.calls.specs.Instructions.{contextOp};
 
-// Where CALL and CALLI go.
-fn target(d: &[u32; 16], a: &[u32; 16], core: &[u32; CORE], op: Context, i: Instruction) -> u32
+// Where a call goes: CALLI to A[a] as before the step, CALL to PC plus immediate.
+fn target(a: &[u32; 16], core: &[u32; CORE], op: Context, i: Instruction) -> u32
     requires { ⌜ FieldsHold i ⌝ }
-    ensures { λ r. ⌜ r ≡ targetOf op i (registers (now (d .entry)) (now (a .entry)) (now (core .entry))) ⌝ }
+    ensures { λ r. ⌜ (op ≡ Context.Calli → r ≡ getD (now (a .entry)) (i .a) 0) × ((op ≡ Context.Calli → ⊥) → r ≡ plusOf (getD (now (core .entry)) PC 0) (i .imm)) ⌝ }
 {
     let x = i.a;
-    match op {
-        Context::Call => plus(core[PC], i.imm),
-        Context::Calli => a[x],
-        Context::Ret => core[PC],
-        Context::Rfe => core[PC],
-        Context::Svlcx => core[PC],
-        Context::Rslcx => core[PC],
-        Context::Bisr => core[PC],
-        Context::Syscall => core[PC],
-    }
+    let Context::Calli = op else {
+        return plus(core[PC], i.imm);
+    };
+    a[x]
 }
 
 fn is_bisr(op: Context) -> bool
-    ensures { λ r. ⌜ r ≡ isBisr op ⌝ }
+    ensures { λ r. ⌜ (op ≡ Context.Bisr → r ≡ true) × ((op ≡ Context.Bisr → ⊥) → r ≡ false) ⌝ }
 {
-    match op {
-        Context::Call => false,
-        Context::Calli => false,
-        Context::Ret => false,
-        Context::Rfe => false,
-        Context::Svlcx => false,
-        Context::Rslcx => false,
-        Context::Bisr => true,
-        Context::Syscall => false,
-    }
+    let Context::Bisr = op else {
+        return false;
+    };
+    true
 }
 
 // CALL and CALLI have one call between them, and so have SVLCX and BISR: a function with one caller is compiled into it.
@@ -71,7 +62,7 @@ pub fn execute_context(
 {
     match op {
         Context::Call | Context::Calli => {
-            let to = target(d, a, core, op, i);
+            let to = target(a, core, op, i);
             passed_on(call(base, window, base2, window2, d, a, core, to, i.next))
         }
         Context::Ret => ret(base, window, base2, window2, d, a, core),

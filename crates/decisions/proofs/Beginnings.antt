@@ -19,7 +19,8 @@ use Rattle.image.specs.Fetch.{fetchOf}
 use Rattle.image.specs.declared.fetch.Instruction.{Instruction}
 use Rattle.image.specs.declared.fetch.Fetched.{Fetched}
 use Rattle.image.specs.declared.fetch.Fetched.the-variants.{Found, Nothing}
-use Rattle.entries.specs.Entry.{MadeOf, trapOf, interruptOf}
+use Rattle.entries.specs.Entry.{MadeOf, enterOf}
+use Rattle.entries.specs.declared.entry.Cause.the-variants as cause
 use Rattle.execute.specs.Decision.{performedOf}
 use Rattle.execute.specs.Execute.{executeOf}
 use Rattle.decisions.specs.Beginning.{Traps, Executes, checkBegins, fetchingAt, beginningOf}
@@ -44,8 +45,8 @@ module _ (img : List ℕ) (r : Registers) (rs : List Range) (m : Memory) where
   unfolding executeOf fetchedStep
   executes i e = rw e
 
-  pub traps : (t : Trap) → fetchingAt img (r .core) rs (pc r) ≡ Traps t → trapOf t (pc r) r m ≡ fetchedStep img r rs m
-  unfolding trapOf fetchedStep
+  pub traps : (t : Trap) → fetchingAt img (r .core) rs (pc r) ≡ Traps t → enterOf (cause.Trap t (pc r)) r m ≡ fetchedStep img r rs m
+  unfolding enterOf fetchedStep
   traps t e = rw e
 
   -- ---- with the requests xs none is taken, or the best source
@@ -58,8 +59,8 @@ module _ (img : List ℕ) (r : Registers) (rs : List Range) (m : Memory) where
     unfolding requestsOf beginningOf
     quiet-requests e = rw e (fetch-clears xs img (r .core) rs (pc r))
 
-    pub taken-one : takes (icr r) (bestOf xs .level) ≡ true → (let b = bestOf xs in interruptOf (b .source) (b .level) r m) ≡ oneOf img r xs rs m
-    unfolding oneOf decisionOf beginningOf interruptOf
+    pub taken-one : takes (icr r) (bestOf xs .level) ≡ true → (let b = bestOf xs in enterOf (cause.Interrupt (b .source) (b .level)) r m) ≡ oneOf img r xs rs m
+    unfolding oneOf decisionOf beginningOf enterOf
     taken-one e = rw e
 
     pub taken-requests : takes (icr r) (bestOf xs .level) ≡ true → clearedAt xs (bestOf xs .source) ≡ requestsOf img r xs rs

@@ -4,22 +4,17 @@ use mathlib.Core.List.{List}
 use Rattle.memory.specs.Memory.{Memory}
 use Rattle.registers.specs.Registers.{pc}
 use Rattle.registers.specs.declared.Registers.{Registers}
-use Rattle.events.specs.declared.event.Event.the-variants as event
 use Rattle.protection.specs.declared.range.Range.{Range}
 use Rattle.interrupts.specs.Sources.{clearedAt}
-use Rattle.interrupts.specs.declared.Best.{Best}
-use Rattle.contexts.specs.declared.context.Half.the-variants.{Upper}
-use Rattle.entries.specs.Entry.{MadeOf, interruptEntry}
-use Rattle.execute.specs.Decision.{Decision, Save, trapping, actDecides, performedOf}
+use Rattle.entries.specs.Entry.{MadeOf}
+use Rattle.entries.specs.declared.entry.Cause.the-variants as cause
+use Rattle.execute.specs.Decision.{Decision, enters, actDecides, performedOf}
 use Rattle.execute.specs.Execute.{actOf}
 use Rattle.decisions.specs.Beginning.{Beginning, Interrupts, Traps, Executes, beginningOf}
 
-abbrev pub interrupting : Best → Decision
-interrupting b = Save (event.Interrupt (b .source)) Upper 0 (interruptEntry (b .level))
-
 abbrev pub decidedBy : Registers → List Range → Memory → Beginning → Decision
-decidedBy r rs m (Interrupts b) = interrupting b
-decidedBy r rs m (Traps t) = trapping t (pc r)
+decidedBy r rs m (Interrupts b) = enters (cause.Interrupt (b .source) (b .level))
+decidedBy r rs m (Traps t) = enters (cause.Trap t (pc r))
 decidedBy r rs m (Executes i) = actDecides (i .next) r (actOf i r rs m)
 
 -- what the step is to do

@@ -83,10 +83,6 @@ abbrev pub savingOf : Event → Half → ℕ → (Registers → Registers) → R
 savingOf e half saved-pc then r m =
     let v = saveOf half (contextOf half saved-pc r) (r .core) m in entering e then r (v .saved) (v .core) (v .memory)
 
--- an entry: an upper save, then the registers
-abbrev pub entryOf : Event → (Registers → Registers) → Registers → Memory → MadeOf
-entryOf e then r m = savingOf e Upper 0 then r m
-
 -- the event of an entry's cause, and the registers that it sets
 abbrev pub causeEvent : Cause → Event
 causeEvent (cause.Trap t back) = event.Trap t
@@ -96,8 +92,6 @@ abbrev pub causeEntry : Cause → Registers → Registers
 causeEntry (cause.Trap t back) = trapEntry t back
 causeEntry (cause.Interrupt source level) = interruptEntry level
 
-unfoldable pub trapOf : Trap → ℕ → Registers → Memory → MadeOf
-trapOf t back r m = entryOf (event.Trap t) (trapEntry t back) r m
-
-unfoldable pub interruptOf : ℕ → ℕ → Registers → Memory → MadeOf
-interruptOf source level r m = entryOf (event.Interrupt source) (interruptEntry level) r m
+-- an entry: an upper save, then the registers
+unfoldable pub enterOf : Cause → Registers → Memory → MadeOf
+enterOf c r m = savingOf (causeEvent c) Upper 0 (causeEntry c) r m

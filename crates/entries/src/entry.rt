@@ -23,7 +23,7 @@ use registers::PC;
 ghost use mathlib.Core.Path.{_≡_};
 ghost use Rattle.memory.specs.Memory.{lent};
 ghost use Rattle.registers.specs.Registers.{registers};
-ghost use Rattle.entries.specs.Entry.{made, fcdOf, causeEvent, causeEntry, entryOf, trapOf, interruptOf};
+ghost use Rattle.entries.specs.Entry.{made, fcdOf, causeEvent, causeEntry, enterOf};
 
 // The FCD entry after a step's save: it works on the state that the step had reached.
 pub fn enter_fcd(
@@ -53,7 +53,7 @@ pub fn enter_fcd(
 }
 
 // What an entry is for.
-enum Cause {
+pub enum Cause {
     // with its return address
     Trap(Trap, u32),
     // the source and its priority number; the return address is PC
@@ -89,7 +89,7 @@ fn enter(
     core: &mut [u32; CORE],
     cause: Cause,
 ) -> Ending
-    ensures { λ r. ⌜ made r (registers (now (d .exit)) (now (a .exit)) (now (core .exit))) (lent base (now (window .exit)) base2 (now (window2 .exit))) ≡ entryOf (causeEvent cause) (causeEntry cause) (registers (now (d .entry)) (now (a .entry)) (now (core .entry))) (lent base (now (window .entry)) base2 (now (window2 .entry))) ⌝ }
+    ensures { λ r. ⌜ made r (registers (now (d .exit)) (now (a .exit)) (now (core .exit))) (lent base (now (window .exit)) base2 (now (window2 .exit))) ≡ enterOf cause (registers (now (d .entry)) (now (a .entry)) (now (core .entry))) (lent base (now (window .entry)) base2 (now (window2 .entry))) ⌝ }
 {
     match save_upper(base, window, base2, window2, d, a, core) {
         Saved::Stops(s) => Ending::Stopped(s),
@@ -116,7 +116,7 @@ pub fn trap(
     t: Trap,
     back: u32,
 ) -> Ending
-    ensures { λ r. ⌜ made r (registers (now (d .exit)) (now (a .exit)) (now (core .exit))) (lent base (now (window .exit)) base2 (now (window2 .exit))) ≡ trapOf t back (registers (now (d .entry)) (now (a .entry)) (now (core .entry))) (lent base (now (window .entry)) base2 (now (window2 .entry))) ⌝ }
+    ensures { λ r. ⌜ made r (registers (now (d .exit)) (now (a .exit)) (now (core .exit))) (lent base (now (window .exit)) base2 (now (window2 .exit))) ≡ enterOf (Cause.Trap t back) (registers (now (d .entry)) (now (a .entry)) (now (core .entry))) (lent base (now (window .entry)) base2 (now (window2 .entry))) ⌝ }
 {
     enter(
         base,
@@ -142,7 +142,7 @@ pub fn interrupt(
     source: u8,
     level: u8,
 ) -> Ending
-    ensures { λ r. ⌜ made r (registers (now (d .exit)) (now (a .exit)) (now (core .exit))) (lent base (now (window .exit)) base2 (now (window2 .exit))) ≡ interruptOf source level (registers (now (d .entry)) (now (a .entry)) (now (core .entry))) (lent base (now (window .entry)) base2 (now (window2 .entry))) ⌝ }
+    ensures { λ r. ⌜ made r (registers (now (d .exit)) (now (a .exit)) (now (core .exit))) (lent base (now (window .exit)) base2 (now (window2 .exit))) ≡ enterOf (Cause.Interrupt source level) (registers (now (d .entry)) (now (a .entry)) (now (core .entry))) (lent base (now (window .entry)) base2 (now (window2 .entry))) ⌝ }
 {
     enter(
         base,

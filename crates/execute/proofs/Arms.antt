@@ -28,7 +28,8 @@ use Rattle.contexts.specs.declared.save.Saved.{Saved}
 use Rattle.contexts.specs.declared.save.Saved.the-variants as saved
 use Rattle.contexts.specs.declared.restore.Returned.{Returned}
 use Rattle.contexts.specs.declared.restore.Returned.the-variants as returned
-use Rattle.entries.specs.Entry.{MadeOf, fcdBy, fcdOf, entering, trapEntry, trapOf}
+use Rattle.entries.specs.Entry.{MadeOf, fcdBy, fcdOf, entering, trapEntry, enterOf}
+use Rattle.entries.specs.declared.entry.Cause.the-variants as cause
 use Rattle.acts.specs.Acts as acts
 use Rattle.acts.specs.Acts.{Act, Ended, ended, keeping, Did, did, controlOf, isSame, doneBy, doneOf, performOf, saveDid, returnDid}
 use Rattle.acts.specs.declared.How.{How}
@@ -37,7 +38,7 @@ use Rattle.acts.proofs.Steadiness.{Steady, steady-flags}
 use Rattle.moves.specs.Moves.{integerOf}
 use Rattle.execute.specs.Decision.{actDecides, returningBy, performedOf}
 use Rattle.execute.specs.Execute.{actBy, actOf, finishOf, executeOf}
-use Rattle.execute.specs.Executed.{isDone, staysSteady}
+use Rattle.execute.specs.Executed.{staysSteady}
 
 pub performs : {o : Operation} {v : Did} (i : Instruction) (r : Registers) (rs : List Range) (m : Memory) → i .op ≡ o → v ≡ performOf (actBy o i r rs m) r m → v ≡ performOf (actOf i r rs m) r m
 unfolding actOf
@@ -50,15 +51,6 @@ keeps-memory m is = ap (λ (v : Ended). keeping v m) is
 pub steady-integer : (i : Instruction) (r : Registers) (op : Integer) → Steady r (integerOf op i r)
 unfolding integerOf
 steady-integer i r op = steady-flags _ _ _ _ r (psw-of (λ (p : ℕ). PSW·PRS p ≡ PSW·PRS (psw r)) (psw r) refl (prs-overflowed (psw r)) (prs-flagged (psw r)) op _ _)
-
--- an instruction that is done and no more
-pub done-is : (h : How) → isDone h ≡ true → h ≡ how.Done
-done-is how.Done e = refl
-done-is how.Switched e = absurd (never (sym e))
-done-is how.Depleted e = absurd (never (sym e))
-done-is (how.Trap t) e = absurd (never (sym e))
-done-is (how.TrapAfter t) e = absurd (never (sym e))
-done-is (how.Stopped s) e = absurd (never (sym e))
 
 -- ---- performing an act and then the entry is executing it
 abbrev finishDid : ℕ → Did → MadeOf
@@ -87,7 +79,7 @@ module _ (next : ℕ) (r : Registers) (m : Memory) where
   return-is then returned.Done q n = done-finish _ n
 
   act-is : (a : Act) → finishDid next (performOf a r m) ≡ performedOf (actDecides next r a) r m
-  unfolding finishOf trapOf
+  unfolding finishOf enterOf
   act-is (acts.Ends (acts.Sets q)) = done-finish q m
   act-is (acts.Ends (acts.Traps t)) = refl
   act-is (acts.Ends (acts.TrapsAfter t)) = refl
@@ -145,8 +137,8 @@ module _ (r : Registers) where
       by (room.Stops s) = refl
       by (room.At at) = refl
 
-  trap-entered : (t : Trap) (back : ℕ) (q : Registers) (m : Memory) → Entered (trapOf t back q m)
-  unfolding trapOf
+  trap-entered : (t : Trap) (back : ℕ) (q : Registers) (m : Memory) → Entered (enterOf (cause.Trap t back) q m)
+  unfolding enterOf
   trap-entered t back q m = let v = saveOf Upper (upperOf q) (q .core) m in by (v .saved) (v .core) (v .memory)
     where
       by : (s : Saved) (core : List ℕ) (n : Memory) → Entered (entering (event.Trap t) (trapEntry t back) q s core n)
@@ -154,9 +146,9 @@ module _ (r : Registers) where
       by saved.Done core n = refl
       by saved.Depleted core n = fcd-entered _ n
 
-  finish-told : (next : ℕ) (h : How) (q : Registers) (m : Memory) → Told r h q → isDone h ≡ false → Entered (finishOf next h q m)
+  finish-told : (next : ℕ) (h : How) (q : Registers) (m : Memory) → Told r h q → (h ≡ how.Done → ⊥) → Entered (finishOf next h q m)
   unfolding finishOf
-  finish-told next how.Done q m t e = absurd (never e)
+  finish-told next how.Done q m t e = absurd (e refl)
   finish-told next how.Switched q m t e = t
   finish-told next how.Depleted q m t e = fcd-entered q m
   finish-told next (how.Trap x) q m t e = trap-entered x _ q m
@@ -172,5 +164,5 @@ module _ (i : Instruction) (r : Registers) (rs : List Range) (m : Memory) {h : H
   pub told : Told r h q
   told = subst (ToldDid r) (sym is) (act-told r m (actOf i r rs m))
 
-  pub entered : {x : MadeOf} → x ≡ finishOf (i .next) h q n → isDone h ≡ false → false ≡ staysSteady (x .ending) r (x .registers)
+  pub entered : {x : MadeOf} → x ≡ finishOf (i .next) h q n → (h ≡ how.Done → ⊥) → false ≡ staysSteady (x .ending) r (x .registers)
   entered e f = sym (subst (Entered r) (sym e) (finish-told r (i .next) h q n told f))

@@ -3,7 +3,6 @@ use Prim.Native.Nat.{ℕ}
 use Rattle.memory.specs.Memory.{Memory, memory}
 use Rattle.registers.specs.Registers.{pc}
 use Rattle.registers.specs.declared.Registers.{Registers}
-use Rattle.events.specs.declared.trap.Trap.{Trap}
 use Rattle.events.specs.declared.event.Event.{Event}
 use Rattle.events.specs.declared.event.Event.the-variants as event
 use Rattle.events.specs.declared.event.Stop.the-variants as stop
@@ -14,7 +13,9 @@ use Rattle.contexts.specs.declared.context.Half.{Half}
 use Rattle.contexts.specs.declared.context.Half.the-variants.{Upper}
 use Rattle.contexts.specs.declared.restore.Returned.{Returned}
 use Rattle.contexts.specs.declared.restore.Returned.the-variants as returned
-use Rattle.entries.specs.Entry.{MadeOf, made, trapEntry, savingOf}
+use Rattle.entries.specs.Entry.{MadeOf, made, savingOf, causeEvent, causeEntry}
+use Rattle.entries.specs.declared.entry.Cause.{Cause}
+use Rattle.entries.specs.declared.entry.Cause.the-variants as cause
 use Rattle.acts.specs.Acts as acts
 use Rattle.acts.specs.Acts.{Act, Effect, storedOf}
 
@@ -28,15 +29,15 @@ pub data Decision : Type 0 where
   -- the half, and the registers after it from those that are loaded
   Return : Half → (Registers → Registers) → Decision
 
--- a trap, with its return address
-abbrev pub trapping : Trap → ℕ → Decision
-trapping t back = Save (event.Trap t) Upper 0 (trapEntry t back)
+-- an entry by its cause
+abbrev pub enters : Cause → Decision
+enters c = Save (causeEvent c) Upper 0 (causeEntry c)
 
 -- the trapping instruction is the return address, but the next one for SYSCALL, TRAPV, TRAPSV
 abbrev pub effectDecides : ℕ → ℕ → Effect → Decision
 effectDecides pc next (acts.Sets q) = Keep q
-effectDecides pc next (acts.Traps t) = trapping t pc
-effectDecides pc next (acts.TrapsAfter t) = trapping t next
+effectDecides pc next (acts.Traps t) = enters (cause.Trap t pc)
+effectDecides pc next (acts.TrapsAfter t) = enters (cause.Trap t next)
 
 -- an instruction by its act, with the address after it
 abbrev pub actDecides : ℕ → Registers → Act → Decision

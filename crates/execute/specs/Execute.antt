@@ -10,7 +10,8 @@ use Rattle.operations.specs.declared.Operation.the-variants.{Nop, Integer, Move
 use Rattle.image.specs.declared.fetch.Instruction.{Instruction}
 use Rattle.events.specs.declared.event.Event.the-variants as event
 use Rattle.events.specs.declared.event.Ending.the-variants.{Made, Stopped}
-use Rattle.entries.specs.Entry.{MadeOf, made, fcdOf, trapOf}
+use Rattle.entries.specs.Entry.{MadeOf, made, fcdOf, enterOf}
+use Rattle.entries.specs.declared.entry.Cause.the-variants as cause
 use Rattle.acts.specs.Acts.{Act, Ends, Sets}
 use Rattle.acts.specs.declared.How.{How}
 use Rattle.acts.specs.declared.How.the-variants as how
@@ -45,6 +46,6 @@ unfoldable pub finishOf : ℕ → How → Registers → Memory → MadeOf
 finishOf next how.Done r m = made (Made event.Instruction) r m
 finishOf next how.Switched r m = made (Made event.Instruction) r m
 finishOf next how.Depleted r m = fcdOf r m
-finishOf next (how.Trap t) r m = trapOf t (pc r) r m
-finishOf next (how.TrapAfter t) r m = trapOf t next r m
+finishOf next (how.Trap t) r m = enterOf (cause.Trap t (pc r)) r m
+finishOf next (how.TrapAfter t) r m = enterOf (cause.Trap t next) r m
 finishOf next (how.Stopped s) r m = made (Stopped s) r m

@@ -18,15 +18,6 @@ abbrev pub isSteady : Executed → Bool
 isSteady Steady = true
 isSteady (Ended e) = false
 
--- an instruction that is done, and no more
-abbrev pub isDone : How → Bool
-isDone how.Done = true
-isDone how.Switched = false
-isDone how.Depleted = false
-isDone (how.Trap t) = false
-isDone (how.TrapAfter t) = false
-isDone (how.Stopped s) = false
-
 -- a step that ended so, with the registers before and after it, is steady where there was no entry, and ICR, SYSCON and PSW.PRS are as they were
 abbrev pub staysSteady : Ending → Registers → Registers → Bool
 staysSteady (Made event.Instruction) r q = isSame (controlOf (r .core)) (controlOf (q .core))

@@ -26,7 +26,7 @@ ghost use Rattle.image.specs.Fetch.{FieldsHold};
 ghost use Rattle.entries.specs.Entry.{made};
 ghost use Rattle.acts.specs.Acts.{did, performOf};
 ghost use Rattle.execute.specs.Execute.{actOf, finishOf, executeOf};
-ghost use Rattle.execute.specs.Executed.{endingOf, isSteady, isDone, staysSteady};
+ghost use Rattle.execute.specs.Executed.{endingOf, isSteady, staysSteady};
 
 // An instruction that is done and leaves ICR, SYSCON and PSW.PRS as they are, or the ending of any other.
 pub enum Executed {
@@ -125,20 +125,6 @@ fn finish(
     }
 }
 
-// Done, and nothing else.
-fn is_done(how: How) -> bool
-    ensures { λ r. ⌜ r ≡ isDone how ⌝ }
-{
-    match how {
-        How::Done => true,
-        How::Switched => false,
-        How::Depleted => false,
-        How::Trap(_) => false,
-        How::TrapAfter(_) => false,
-        How::Stopped(_) => false,
-    }
-}
-
 // An instruction with its traps.
 pub fn execute_instruction(
     base: Address,
@@ -156,8 +142,8 @@ pub fn execute_instruction(
     ensures { λ r. ⌜ isSteady r ≡ staysSteady (endingOf r) (registers (now (d .entry)) (now (a .entry)) (now (core .entry))) (registers (now (d .exit)) (now (a .exit)) (now (core .exit))) ⌝ }
 {
     let how = perform(base, window, base2, window2, d, a, core, ranges, i);
-    if is_done(how) {
-        return Executed::Steady;
-    }
-    Executed::Ended(finish(base, window, base2, window2, d, a, core, how, i.next))
+    let How::Done = how else {
+        return Executed::Ended(finish(base, window, base2, window2, d, a, core, how, i.next));
+    };
+    Executed::Steady
 }

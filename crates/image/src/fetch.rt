@@ -9,12 +9,16 @@ use crate::marks::slot_of;
 use crate::table::Entry;
 use crate::table::read_entry;
 use memory::word_at;
+use operations::Access;
 use operations::Operation;
+use operations::access_of;
 use operations::decode;
+use operations::operation_number;
 ghost use mathlib.Core.Path.{_≡_};
 ghost use mathlib.Core.Bool.{true};
 ghost use Prim.Native.Nat.{ℕ, _+_, _*_, _≤_, _<_};
 ghost use lib.ListN.{length};
+ghost use Rattle.operations.specs.Operations.{accessOf};
 ghost use Rattle.image.specs.Lengths.{addressAfter};
 ghost use Rattle.image.specs.Table.{entriesOf, entryAt};
 ghost use Rattle.image.specs.Records.{ImageHolds};
@@ -61,6 +65,25 @@ pub fn read_record(image: &[u8], at: usize, next: u32) -> Instruction
         b: wide(image[at + 3]),
         imm: word_at(image, at + 4),
         next: next,
+    }
+}
+
+// Of an instruction what says which data it accesses.
+pub struct Operand {
+    pub access: Access,
+    pub a: usize,
+    pub imm: u32,
+}
+
+// That of the record at byte `at` of the image.
+pub fn read_operand(image: &[u8], at: usize) -> Operand
+    requires { ⌜ at + 8 ≤ length (now image) ⌝ }
+    ensures { λ r. ⌜ ((pc : ℕ) → (r .access ≡ accessOf (instructionAt (now (image .entry)) at pc .op)) × (r .a ≡ instructionAt (now (image .entry)) at pc .a) × (r .imm ≡ instructionAt (now (image .entry)) at pc .imm)) ⌝ }
+{
+    Operand {
+        access: access_of(operation_number(image[at])),
+        a: wide(image[at + 2]),
+        imm: word_at(image, at + 4),
     }
 }
 

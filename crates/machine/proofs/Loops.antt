@@ -20,7 +20,8 @@ use Rattle.events.specs.declared.event.Ending.the-variants as ending
 use Rattle.protection.specs.declared.range.Range.{Range}
 use Rattle.interrupts.specs.Sources.{best, bestOf, takes, clearedAt}
 use Rattle.interrupts.specs.declared.Best.{Best}
-use Rattle.entries.specs.Entry.{MadeOf, interruptOf}
+use Rattle.entries.specs.Entry.{MadeOf, enterOf}
+use Rattle.entries.specs.declared.entry.Cause.the-variants as cause
 use Rattle.decisions.specs.Decision.{oneOf}
 use Rattle.decisions.proofs.Beginnings.{taken-one, taken-requests}
 use Rattle.machine.specs.Run.{RunOf, ran, runFrom}
@@ -101,12 +102,12 @@ module _ (n : ℕ) (img : List ℕ) (rs : List Range) (r₀ : Registers) (xs₀ 
     whole = subst (λ (l : ℕ). runFrom l img rs (Made last) (n - left) r xs m ≡ runFrom n img rs (Made event.Instruction) 0 r₀ xs₀ m₀) before (t .run)
 
     -- ---- an interrupt
-    module _ (p : takes (icr r) (best .level) ≡ true) {v : MadeOf} (is : v ≡ interruptOf (best .source) (best .level) r m) where
+    module _ (p : takes (icr r) (best .level) ≡ true) {v : MadeOf} (is : v ≡ enterOf (cause.Interrupt (best .source) (best .level)) r m) where
       taken : takes (icr r) (bestOf xs .level) ≡ true
       taken = rw (← is-best p) p
 
       one : v ≡ oneOf img r xs rs m
-      one = is ∙ ap (λ (b : Best). interruptOf (b .source) (b .level) r m) (is-best p) ∙ taken-one img r rs m xs taken
+      one = is ∙ ap (λ (b : Best). enterOf (cause.Interrupt (b .source) (b .level)) r m) (is-best p) ∙ taken-one img r rs m xs taken
 
       pub turn-interrupt : (e : Event) → v .ending ≡ ending.Made e → (ys : List ℕ) → ys ≡ clearedAt xs (best .source) → (best′ : Best) → best′ ≡ bestOf ys → Turn (left - 1) e (v .registers) ys (v .memory) best′
       turn-interrupt e f ys y best′ b =

@@ -1,23 +1,21 @@
 -- The range named for an access, case by case; and that it is the lowest which permits it.
 -- Assumes nothing.
-use Prim.Native.Nat.{ℕ, _+_, _≤_, _<_}
+use Prim.Native.Nat.{ℕ}
 use mathlib.Core.Path.{_≡_, refl, sym, ap, subst, _∙_}
 use mathlib.Core.Bool.{Bool, true, false, cond, not, _&&_}
 use mathlib.Core.List.{List}
 use mathlib.Core.Logic.{inl, inr}
 use lib.ListN.{getD}
-use borrow.Author.Tests.{le-leb, lt-leb}
 use Rattle.words.specs.Exactly.{Exactly}
 use Rattle.words.proofs.Answers.{exactly}
 use Rattle.words.proofs.Truth.{never}
 use Rattle.memory.specs.Address.{asAddress}
-use Rattle.memory.specs.Word.{wordAt}
 use Rattle.memory.specs.declared.address.Address.{Address}
 use Rattle.fields.specs.Psw.{PSW·PRS}
 use Rattle.fields.specs.Syscon.{SYSCON·PROTEN}
 use Rattle.events.specs.declared.trap.Trap.{Trap}
 use Rattle.protection.specs.Range.{lowestOf}
-use Rattle.protection.specs.Access.{checkOf, asks, peripheral}
+use Rattle.protection.specs.Access.{checkOf, asks, peripheral, permitOf}
 use Rattle.protection.specs.declared.range.Range.{Range}
 use Rattle.protection.specs.declared.range.Right.{Right}
 use Rattle.protection.specs.declared.range.Right.the-variants as right
@@ -27,40 +25,35 @@ use Rattle.protection.specs.declared.access.Check.{Check}
 use Rattle.protection.specs.declared.access.Check.the-variants.{Passes, Fails}
 use Rattle.protection.proofs.Searches.{lowest-says, lowest-is}
 use Rattle.interrupts.specs.Sources.{bestOf, takes}
-use Rattle.operations.specs.Operations.{operationOf, accessOf}
+use Rattle.operations.specs.Operations.{accessOf}
 use Rattle.operations.specs.declared.Access.{Access}
-use Rattle.operations.specs.Forms.{operationNumber}
-use Rattle.image.specs.Fetch.{instructionAt, fetchOf}
+use Rattle.image.specs.Fetch.{fetchOf}
 use Rattle.image.specs.declared.fetch.Instruction.{Instruction}
 use Rattle.image.specs.declared.fetch.Fetched.{Fetched}
 use Rattle.image.specs.declared.fetch.Fetched.the-variants.{Found, Nothing}
 use Rattle.accesses.specs.Reach.{dataAddress}
 use Rattle.decisions.specs.Beginning.{Beginning, Interrupts, checkBegins, fetchingAt, beginningOf}
-use Rattle.permits.specs.Permits.{Asked, none, access, dataBy, dataIn, fetchAsked, dataAsked, permitOf, permitsBy, noPermits, begunPermits, permitsOf, NamedFor}
+use Rattle.permits.specs.Permits.{Asked, none, access, dataBy, dataIn, fetchAsked, dataAsked, permitFor, permitsBy, noPermits, begunPermits, permitsOf, NamedFor}
 use Rattle.permits.specs.declared.Permits.{Permits}
 
 module _ (core : List ℕ) (rs : List Range) where
-  pub of-none : Unnamed ≡ permitOf core rs none
-  unfolding permitOf
+  pub of-none : Unnamed ≡ permitFor core rs none
+  unfolding permitFor
   of-none = refl
 
   -- ---- one access
   module _ (right : Right) (address : Address) where
-    pub of-peripherals : 0xE000_0000 ≤ address .0 → Unnamed ≡ permitOf core rs (access right address)
-    unfolding permitOf
-    of-peripherals h = rw (le-leb _ _ h)
+    pub of-access : {p : Permit} → p ≡ permitOf core rs right address → p ≡ permitFor core rs (access right address)
+    unfolding permitFor
+    of-access e = e
 
-    pub not-asked : SYSCON·PROTEN (getD core 9 0) ≡ false → Unnamed ≡ permitOf core rs (access right address)
-    unfolding permitOf
+    not-asked : SYSCON·PROTEN (getD core 9 0) ≡ false → Unnamed ≡ permitFor core rs (access right address)
+    unfolding permitFor permitOf
     not-asked p = rw p (by (peripheral address))
       where
         by : (b : Bool) → Unnamed ≡ cond (not b && false) (lowestOf rs (PSW·PRS (getD core 1 0)) right address) Unnamed
         by true = refl
         by false = refl
-
-    pub asked : address .0 < 0xE000_0000 → SYSCON·PROTEN (getD core 9 0) ≡ true → lowestOf rs (PSW·PRS (getD core 1 0)) right address ≡ permitOf core rs (access right address)
-    unfolding permitOf
-    asked h p = rw (lt-leb _ _ h, p)
 
     -- what is named says so, and nothing else does
     says : (b : Bool) → asks core address ≡ b → NamedFor core rs (access right address) (cond b (lowestOf rs (PSW·PRS (getD core 1 0)) right address) Unnamed)
@@ -73,35 +66,33 @@ module _ (core : List ℕ) (rs : List Range) where
     only false e p (inl h) = absurd (never (sym (h .0) ∙ e))
     only false e p (inr h) = h .1
 
-  pub named : (a : Asked) (p : Permit) → p ≡ permitOf core rs a → Exactly (NamedFor core rs a) p
-  unfolding permitOf
+  pub named : (a : Asked) (p : Permit) → p ≡ permitFor core rs a → Exactly (NamedFor core rs a) p
+  unfolding permitFor permitOf
   named none p e = exactly (NamedFor core rs none) Unnamed refl (λ x h. h) p e .1
   named (access right address) p e =
-      exactly (NamedFor core rs (access right address)) (permitOf core rs (access right address)) (says right address (asks core address) refl) (only right address (asks core address) refl) p e .1
+      exactly (NamedFor core rs (access right address)) (permitFor core rs (access right address)) (says right address (asks core address) refl) (only right address (asks core address) refl) p e .1
 
   -- with protection off none is named
-  off : (a : Asked) → SYSCON·PROTEN (getD core 9 0) ≡ false → Unnamed ≡ permitOf core rs a
+  off : (a : Asked) → SYSCON·PROTEN (getD core 9 0) ≡ false → Unnamed ≡ permitFor core rs a
   off none p = of-none
   off (access right address) p = not-asked right address p
 
-  -- ---- the data access of the record at a byte of the image
-  module _ (a img : List ℕ) (at pc : ℕ) (address : Address) (is : address ≡ dataAddress (getD a (getD img (at + 2) 0) 0) (wordAt img (at + 4))) where
-    pub of-data : (x : Access) → x ≡ accessOf (operationOf (operationNumber (getD img at 0))) → {p : Permit} → p ≡ permitOf core rs (dataBy x address) → p ≡ permitOf core rs (dataIn (instructionAt img at pc) a)
-    unfolding instructionAt
-    of-data x e h = rw (← e, ← is) h
+  -- ---- the data access of an instruction
+  pub of-data : (a : List ℕ) (i : Instruction) (k imm : ℕ) (address : Address) → k ≡ i .a → imm ≡ i .imm → address ≡ dataAddress (getD a k 0) imm → (x y : Access) → y ≡ accessOf (i .op) → y ≡ x → {p : Permit} → p ≡ permitFor core rs (dataBy x address) → p ≡ permitFor core rs (dataIn i a)
+  of-data a i k imm address f g is x y e d h = rw (← f, ← g, ← e, d, ← is) h
 
   module _ (img a : List ℕ) where
     -- ---- of the instruction at PC
-    pub not-fetched : (t : Trap) → Fails t ≡ checkOf core rs right.Execute (asAddress (getD core 0 0)) → Unnamed ≡ permitOf core rs (dataAsked a (fetchingAt img core rs (getD core 0 0)))
-    unfolding permitOf fetchingAt
+    pub not-fetched : (t : Trap) → Fails t ≡ checkOf core rs right.Execute (asAddress (getD core 0 0)) → Unnamed ≡ permitFor core rs (dataAsked a (fetchingAt img core rs (getD core 0 0)))
+    unfolding permitFor fetchingAt
     not-fetched t e = rw (← e)
 
     module _ (e : Passes ≡ checkOf core rs right.Execute (asAddress (getD core 0 0))) where
-      pub no-record : Nothing ≡ fetchOf img (getD core 0 0) → Unnamed ≡ permitOf core rs (dataAsked a (fetchingAt img core rs (getD core 0 0)))
-      unfolding permitOf fetchingAt
+      pub no-record : Nothing ≡ fetchOf img (getD core 0 0) → Unnamed ≡ permitFor core rs (dataAsked a (fetchingAt img core rs (getD core 0 0)))
+      unfolding permitFor fetchingAt
       no-record f = rw (← e, ← f)
 
-      pub of-record : (i : Instruction) → Found i ≡ fetchOf img (getD core 0 0) → {p : Permit} → p ≡ permitOf core rs (dataIn i a) → p ≡ permitOf core rs (dataAsked a (fetchingAt img core rs (getD core 0 0)))
+      pub of-record : (i : Instruction) → Found i ≡ fetchOf img (getD core 0 0) → {p : Permit} → p ≡ permitFor core rs (dataIn i a) → p ≡ permitFor core rs (dataAsked a (fetchingAt img core rs (getD core 0 0)))
       unfolding fetchingAt
       of-record i f h = rw (← e, ← f) h
 
@@ -110,8 +101,8 @@ module _ (core : List ℕ) (rs : List Range) where
       abbrev Says : Beginning → Permits → Type 0
       Says s p = (p ≡ begunPermits a core rs s) × (Exactly (NamedFor core rs (fetchAsked (getD core 0 0) s)) (p .fetch) × Exactly (NamedFor core rs (dataAsked a s)) (p .data))
 
-      says-both : (s : Beginning) (f d : Permit) → f ≡ permitOf core rs (fetchAsked (getD core 0 0) s) → d ≡ permitOf core rs (dataAsked a s) → Says s (permitsBy f d)
-      says-both s f d p q = (ap (λ (x : Permit). permitsBy x d) p ∙ ap (permitsBy (permitOf core rs (fetchAsked (getD core 0 0) s))) q, (named (fetchAsked (getD core 0 0) s) f p, named (dataAsked a s) d q))
+      says-both : (s : Beginning) (f d : Permit) → f ≡ permitFor core rs (fetchAsked (getD core 0 0) s) → d ≡ permitFor core rs (dataAsked a s) → Says s (permitsBy f d)
+      says-both s f d p q = (ap (λ (x : Permit). permitsBy x d) p ∙ ap (permitsBy (permitFor core rs (fetchAsked (getD core 0 0) s))) q, (named (fetchAsked (getD core 0 0) s) f p, named (dataAsked a s) d q))
 
       abbrev pub Both : Permits → Type 0
       Both p = (p ≡ permitsOf img a core xs rs) × (Exactly (NamedFor core rs (fetchAsked (getD core 0 0) (beginningOf img core xs rs))) (p .fetch) × Exactly (NamedFor core rs (dataAsked a (beginningOf img core xs rs))) (p .data))
@@ -137,6 +128,6 @@ module _ (core : List ℕ) (rs : List Range) where
       unfolding fetchingAt
       fetch-asked = asks-fetch (checkOf core rs right.Execute (asAddress (getD core 0 0))) (fetchOf img (getD core 0 0))
 
-      pub both-quiet : takes (getD core 5 0) (bestOf xs .level) ≡ false → {f d : Permit} → f ≡ permitOf core rs (access right.Execute (asAddress (getD core 0 0))) → d ≡ permitOf core rs (dataAsked a (fetchingAt img core rs (getD core 0 0))) → Both (permitsBy f d)
+      pub both-quiet : takes (getD core 5 0) (bestOf xs .level) ≡ false → {f d : Permit} → f ≡ permitFor core rs (access right.Execute (asAddress (getD core 0 0))) → d ≡ permitFor core rs (dataAsked a (fetchingAt img core rs (getD core 0 0))) → Both (permitsBy f d)
       unfolding beginningOf
-      both-quiet e {f} {d} p q = let s = fetchingAt img core rs (getD core 0 0) in both (permitsBy f d) s (rw e refl) (says-both s f d (p ∙ ap (permitOf core rs) (sym fetch-asked)) q)
+      both-quiet e {f} {d} p q = let s = fetchingAt img core rs (getD core 0 0) in both (permitsBy f d) s (rw e refl) (says-both s f d (p ∙ ap (permitFor core rs) (sym fetch-asked)) q)

@@ -1,7 +1,7 @@
 -- The ranges that permit a step's fetch and its data access: of set PRS the lowest (02, point 2).
 use Prim.Native.Nat.{ℕ}
 use mathlib.Core.Path.{_≡_}
-use mathlib.Core.Bool.{true, false, cond}
+use mathlib.Core.Bool.{true, false}
 use mathlib.Core.List.{List}
 use mathlib.Core.Logic.{_⊎_}
 use lib.ListN.{getD}
@@ -9,8 +9,8 @@ use Rattle.fields.specs.Psw.{PSW·PRS}
 use Rattle.memory.specs.Address.{asAddress}
 use Rattle.memory.specs.declared.address.Address.{Address}
 use Rattle.registers.specs.Core.{PC, PSW}
-use Rattle.protection.specs.Range.{lowestOf, Lowest}
-use Rattle.protection.specs.Access.{asks}
+use Rattle.protection.specs.Range.{Lowest}
+use Rattle.protection.specs.Access.{asks, permitOf}
 use Rattle.protection.specs.declared.range.Range.{Range}
 use Rattle.protection.specs.declared.range.Right.{Right}
 use Rattle.protection.specs.declared.range.Right.the-variants.{Read, Write, Execute}
@@ -49,10 +49,10 @@ dataAsked a (Interrupts b) = none
 dataAsked a (Traps t) = none
 dataAsked a (Executes i) = dataIn i a
 
--- the range named for an access: of set PRS the lowest that permits it, and only where the ranges are asked
-unfoldable pub permitOf : List ℕ → List Range → Asked → Permit
-permitOf core rs none = Unnamed
-permitOf core rs (access right address) = cond (asks core address) (lowestOf rs (PSW·PRS (getD core PSW 0)) right address) Unnamed
+-- the range named for it
+unfoldable pub permitFor : List ℕ → List Range → Asked → Permit
+permitFor core rs none = Unnamed
+permitFor core rs (access right address) = permitOf core rs right address
 
 abbrev pub permitsBy : Permit → Permit → Permits
 permitsBy f d = record { fetch = f; «data» = d }
@@ -62,7 +62,7 @@ abbrev pub noPermits : Permits
 noPermits = permitsBy Unnamed Unnamed
 
 abbrev pub begunPermits : List ℕ → List ℕ → List Range → Beginning → Permits
-begunPermits a core rs s = permitsBy (permitOf core rs (fetchAsked (getD core PC 0) s)) (permitOf core rs (dataAsked a s))
+begunPermits a core rs s = permitsBy (permitFor core rs (fetchAsked (getD core PC 0) s)) (permitFor core rs (dataAsked a s))
 
 -- both of a step with these address and core registers and these requests
 unfoldable pub permitsOf : List ℕ → List ℕ → List ℕ → List ℕ → List Range → Permits

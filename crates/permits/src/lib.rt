@@ -2,26 +2,22 @@
 
 use accesses::reach::data_address;
 use image::fetch::Rest;
+use image::fetch::read_operand;
 use image::fetch::rest_at;
 use image::fetch::rest_long;
-use image::fetch::wide;
 use interrupts::best_source;
 use interrupts::taken;
 use memory::address::Address;
 use memory::address::as_address;
-use memory::word_at;
 use operations::Access;
-use operations::access_of;
-use operations::operation_number;
 use protection::access::Check;
 use protection::access::check_access;
+use protection::access::permit_for;
 use protection::range::Permit;
 use protection::range::Right;
-use protection::range::search;
 use registers::CORE;
 use registers::ICR;
 use registers::PC;
-use registers::PSW;
 use registers::SYSCON;
 ghost use mathlib.Core.Path.{_≡_};
 ghost use mathlib.Core.Bool.{true};
@@ -35,30 +31,12 @@ ghost use Rattle.image.specs.Marks.{longOnly};
 ghost use Rattle.image.specs.Fetch.{instructionAt, FieldsHold};
 ghost use Rattle.registers.specs.Core.{PC};
 ghost use Rattle.decisions.specs.Beginning.{fetchingAt, beginningOf};
-ghost use Rattle.permits.specs.Permits.{access, dataIn, fetchAsked, dataAsked, permitOf, permitsOf, NamedFor};
+ghost use Rattle.permits.specs.Permits.{access, dataIn, fetchAsked, dataAsked, permitFor, permitsOf, NamedFor};
 
 // The ranges named for a step's fetch and for its data access.
 pub struct Permits {
     pub fetch: Permit,
     pub data: Permit,
-}
-
-// The lowest range that permits the access, where the ranges are asked and one does.
-fn permit_for(core: &[u32; CORE], words: &[u32; 96], right: Right, address: Address) -> Permit
-    ensures { λ r. ⌜ r ≡ permitOf (now (core .entry)) (rangesIn (now (words .entry))) (access right address) ⌝ }
-{
-    if 0xE000_0000 <= address.0 {
-        return Permit::Unnamed;
-    }
-    if !fields::syscon::protection(core[SYSCON]) {
-        return Permit::Unnamed;
-    }
-    search(
-        words,
-        fields::psw::protection_set(core[PSW]),
-        right,
-        address,
-    )
 }
 
 // Of the data access of the record at byte `at` of the image, which begins at pc.
@@ -71,11 +49,13 @@ fn permit_record(
     pc: u32,
 ) -> Permit
     requires { ⌜ (at + 8 ≤ length (now image)) × FieldsHold (instructionAt (now image) at pc) ⌝ }
-    ensures { λ r. ⌜ r ≡ permitOf (now (core .entry)) (rangesIn (now (words .entry))) (dataIn (instructionAt (now (image .entry)) at pc) (now (a .entry))) ⌝ }
+    ensures { λ r. ⌜ r ≡ permitFor (now (core .entry)) (rangesIn (now (words .entry))) (dataIn (instructionAt (now (image .entry)) at pc) (now (a .entry))) ⌝ }
 {
-    let x = wide(image[at + 2]);
-    let address = data_address(a[x], word_at(image, at + 4));
-    match access_of(operation_number(image[at])) {
+    let o = read_operand(image, at);
+    let x = o.a;
+    let address = data_address(a[x], o.imm);
+    let how = o.access;
+    match how {
         Access::Nothing => Permit::Unnamed,
         Access::Read => permit_for(core, words, Right::Read, address),
         Access::Write => permit_for(core, words, Right::Write, address),
@@ -103,7 +83,7 @@ fn permit_data(
     words: &[u32; 96],
 ) -> Permit
     requires { ⌜ ImageHolds (now image) × (long ≡ true → longOnly (now image) ≡ true) ⌝ }
-    ensures { λ r. ⌜ r ≡ permitOf (now (core .entry)) (rangesIn (now (words .entry))) (dataAsked (now (a .entry)) (fetchingAt (now (image .entry)) (now (core .entry)) (rangesIn (now (words .entry))) (getD (now (core .entry)) PC 0))) ⌝ }
+    ensures { λ r. ⌜ r ≡ permitFor (now (core .entry)) (rangesIn (now (words .entry))) (dataAsked (now (a .entry)) (fetchingAt (now (image .entry)) (now (core .entry)) (rangesIn (now (words .entry))) (getD (now (core .entry)) PC 0))) ⌝ }
 {
     let pc = core[PC];
     match check_access(core, words, Right::Execute, as_address(pc)) {

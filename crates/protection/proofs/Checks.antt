@@ -1,42 +1,57 @@
--- What a check answers, case by case.
+-- What a check answers and which range is named, case by case.
 -- Assumes nothing.
-use Prim.Native.Nat.{ℕ, _≤_, _<_}
+use Prim.Native.Nat.{ℕ, _<_}
 use mathlib.Core.Path.{_≡_}
 use mathlib.Core.Bool.{true, false}
 use mathlib.Core.List.{List}
 use lib.ListN.{getD}
-use borrow.Author.Tests.{le-leb, lt-leb}
+use borrow.Author.Tests.{lt-leb}
 use Rattle.fields.specs.Psw.{PSW·PRS, isUser0}
 use Rattle.fields.specs.Syscon.{SYSCON·PROTEN}
 use Rattle.memory.specs.declared.address.Address.{Address}
 use Rattle.events.specs.Traps.{MPP}
-use Rattle.protection.specs.Range.{permitted, PermittedBy}
-use Rattle.protection.specs.Access.{deniedOf, checkOf}
+use Rattle.protection.specs.Range.{permitted, lowestOf, PermittedBy}
+use Rattle.protection.specs.Access.{deniedOf, peripheral, checkOf, permitOf}
 use Rattle.protection.specs.declared.range.Range.{Range}
 use Rattle.protection.specs.declared.range.Right.{Right}
+use Rattle.protection.specs.declared.range.Permit.the-variants.{Unnamed}
 use Rattle.protection.specs.declared.access.Check.the-variants.{Passes, Fails}
 use Rattle.protection.proofs.Searches.{permitted-by}
 
 module _ (core : List ℕ) (rs : List Range) (right : Right) (address : Address) where
-  pub for-peripherals : 0xE000_0000 ≤ address .0 → isUser0 (getD core 1 0) ≡ true → Fails MPP ≡ checkOf core rs right address
-  unfolding checkOf
-  for-peripherals h u = rw (le-leb _ _ h, u)
+  -- the range named
+  pub unnamed-above : peripheral address ≡ true → Unnamed ≡ permitOf core rs right address
+  unfolding permitOf
+  unnamed-above h = rw h
 
-  pub to-peripherals : 0xE000_0000 ≤ address .0 → isUser0 (getD core 1 0) ≡ false → Passes ≡ checkOf core rs right address
-  unfolding checkOf
-  to-peripherals h u = rw (le-leb _ _ h, u)
+  pub unnamed-off : peripheral address ≡ false → SYSCON·PROTEN (getD core 9 0) ≡ false → Unnamed ≡ permitOf core rs right address
+  unfolding permitOf
+  unnamed-off h p = rw (h, p)
 
-  pub unasked : address .0 < 0xE000_0000 → SYSCON·PROTEN (getD core 9 0) ≡ false → Passes ≡ checkOf core rs right address
-  unfolding checkOf
-  unasked h p = rw (lt-leb _ _ h, p)
+  pub named : peripheral address ≡ false → SYSCON·PROTEN (getD core 9 0) ≡ true → lowestOf rs (PSW·PRS (getD core 1 0)) right address ≡ permitOf core rs right address
+  unfolding permitOf
+  named h p = rw (h, p)
 
-  pub denied : address .0 < 0xE000_0000 → SYSCON·PROTEN (getD core 9 0) ≡ true → permitted rs (PSW·PRS (getD core 1 0)) right address ≡ false → Fails (deniedOf right) ≡ checkOf core rs right address
+  -- the check
+  pub for-peripherals : peripheral address ≡ true → isUser0 (getD core 1 0) ≡ true → Fails MPP ≡ checkOf core rs right address
   unfolding checkOf
-  denied h p d = rw (lt-leb _ _ h, p, d)
+  for-peripherals h u = rw (h, u)
 
-  pub allowed : (k : ℕ) → address .0 < 0xE000_0000 → SYSCON·PROTEN (getD core 9 0) ≡ true → PermittedBy rs (PSW·PRS (getD core 1 0)) right address k → Passes ≡ checkOf core rs right address
+  pub to-peripherals : peripheral address ≡ true → isUser0 (getD core 1 0) ≡ false → Passes ≡ checkOf core rs right address
   unfolding checkOf
-  allowed k h p b = rw (lt-leb _ _ h, p, permitted-by rs right address _ k b)
+  to-peripherals h u = rw (h, u)
+
+  pub unasked : peripheral address ≡ false → SYSCON·PROTEN (getD core 9 0) ≡ false → Passes ≡ checkOf core rs right address
+  unfolding checkOf
+  unasked h p = rw (h, p)
+
+  pub denied : peripheral address ≡ false → SYSCON·PROTEN (getD core 9 0) ≡ true → permitted rs (PSW·PRS (getD core 1 0)) right address ≡ false → Fails (deniedOf right) ≡ checkOf core rs right address
+  unfolding checkOf
+  denied h p d = rw (h, p, d)
+
+  pub allowed : (k : ℕ) → peripheral address ≡ false → SYSCON·PROTEN (getD core 9 0) ≡ true → PermittedBy rs (PSW·PRS (getD core 1 0)) right address k → Passes ≡ checkOf core rs right address
+  unfolding checkOf
+  allowed k h p b = rw (h, p, permitted-by rs right address _ k b)
 
   -- below the peripherals a check goes by PROTEN and PRS alone
   pub same-check : (other : List ℕ) → address .0 < 0xE000_0000 → SYSCON·PROTEN (getD other 9 0) ≡ SYSCON·PROTEN (getD core 9 0) → PSW·PRS (getD other 1 0) ≡ PSW·PRS (getD core 1 0)

@@ -10,10 +10,12 @@ use Rattle.registers.specs.Core.{PSW, SYSCON}
 use Rattle.memory.specs.declared.address.Address.{Address}
 use Rattle.events.specs.Traps.{MPR, MPW, MPX, MPP}
 use Rattle.events.specs.declared.trap.Trap.{Trap}
-use Rattle.protection.specs.Range.{permitted}
+use Rattle.protection.specs.Range.{permitted, lowestOf}
 use Rattle.protection.specs.declared.range.Range.{Range}
 use Rattle.protection.specs.declared.range.Right.{Right}
 use Rattle.protection.specs.declared.range.Right.the-variants.{Read, Write, Execute}
+use Rattle.protection.specs.declared.range.Permit.{Permit}
+use Rattle.protection.specs.declared.range.Permit.the-variants.{Unnamed}
 use Rattle.protection.specs.declared.access.Check.{Check}
 use Rattle.protection.specs.declared.access.Check.the-variants.{Passes, Fails}
 
@@ -38,3 +40,7 @@ checkOf core rs right address =
 -- the ranges are asked
 abbrev pub asks : List ℕ → Address → Bool
 asks core address = not (peripheral address) && SYSCON·PROTEN (getD core SYSCON 0)
+
+-- the range named for an access: of set PRS the lowest that permits it, and only where the ranges are asked
+unfoldable pub permitOf : List ℕ → List Range → Right → Address → Permit
+permitOf core rs right address = cond (asks core address) (lowestOf rs (PSW·PRS (getD core PSW 0)) right address) Unnamed

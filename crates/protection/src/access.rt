@@ -14,7 +14,7 @@ use registers::PSW;
 use registers::SYSCON;
 ghost use mathlib.Core.Path.{_≡_};
 ghost use Rattle.protection.specs.Range.{rangesIn};
-ghost use Rattle.protection.specs.Access.{deniedOf, checkOf};
+ghost use Rattle.protection.specs.Access.{deniedOf, peripheral, permitOf, checkOf};
 
 pub enum Check {
     Passes,
@@ -32,11 +32,36 @@ fn denied(right: Right) -> Trap
     }
 }
 
+// The two upper segments, E and F, are those of the peripherals.
+fn is_peripheral(address: Address) -> bool
+    ensures { λ r. ⌜ r ≡ peripheral address ⌝ }
+{
+    0xE000_0000 <= address.0
+}
+
+// The lowest range of set PRS that permits the access, where the ranges are asked and one does.
+pub fn permit_for(core: &[u32; CORE], words: &[u32; 96], right: Right, address: Address) -> Permit
+    ensures { λ r. ⌜ r ≡ permitOf (now (core .entry)) (rangesIn (now (words .entry))) right address ⌝ }
+{
+    if is_peripheral(address) {
+        return Permit::Unnamed;
+    }
+    if !fields::syscon::protection(core[SYSCON]) {
+        return Permit::Unnamed;
+    }
+    search(
+        words,
+        fields::psw::protection_set(core[PSW]),
+        right,
+        address,
+    )
+}
+
 // Checks the access to an address.
 pub fn check_access(core: &[u32; CORE], words: &[u32; 96], right: Right, address: Address) -> Check
     ensures { λ r. ⌜ r ≡ checkOf (now (core .entry)) (rangesIn (now (words .entry))) right address ⌝ }
 {
-    if 0xE000_0000 <= address.0 {
+    if is_peripheral(address) {
         if fields::psw::user0(core[PSW]) {
             return Check::Fails(MPP);
         }

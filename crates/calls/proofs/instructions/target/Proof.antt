@@ -1,31 +1,16 @@
 -- `calls::instructions::target` meets its contract. Assumes nothing.
 use borrow.Author.Needs.{needs}
+use mathlib.Core.Path.{refl}
+use mathlib.Core.List.{[], _∷_}
+use types.Run.{miss}
 use Rattle.calls.proofs.instructions.target.Statement.{statement}
 use Rattle.calls.proofs.instructions.target.Tie as tie
 
 returns : tie.Need-returns
-returns c = rw (c .before .before .enum-told .given .1, c .plus .ensures)
+returns c = (λ e. absurd (miss (0 ∷ 2 ∷ 3 ∷ 4 ∷ 5 ∷ 6 ∷ 7 ∷ []) 1 tt (rw e at (c .before .before .match .keys2))), λ n. c .plus .ensures)
 
 returns-2 : tie.Need-returns-2
-returns-2 c = rw (c .before .enum-told2 .given .1)
-
-returns-3 : tie.Need-returns-3
-returns-3 c = rw (c .before .enum-told3 .given .1)
-
-returns-4 : tie.Need-returns-4
-returns-4 c = rw (c .before .enum-told4 .given .1)
-
-returns-5 : tie.Need-returns-5
-returns-5 c = rw (c .before .enum-told5 .given .1)
-
-returns-6 : tie.Need-returns-6
-returns-6 c = rw (c .before .enum-told6 .given .1)
-
-returns-7 : tie.Need-returns-7
-returns-7 c = rw (c .before .enum-told7 .given .1)
-
-returns-8 : tie.Need-returns-8
-returns-8 c = rw (c .before .enum-told8 .given .1)
+returns-2 c = (λ e. refl, λ n. absurd (n (c .before .enum-told .given .1)))
 
 pub target-spec : {M : Type 1} → statement M
 target-spec =
@@ -34,26 +19,7 @@ target-spec =
     (λ c. search needs)
     (λ c. search needs)
     (λ c κs. search needs)
-    (λ c. search needs)
-    (λ c. search needs)
-    (λ c. search needs)
-    (λ c. search needs)
-    (λ c. search needs)
-    (λ c. search needs)
-    (λ c. search needs)
-    (λ c. search needs)
-    (λ c. search needs)
-    (λ c. search needs)
-    (λ c. search needs)
-    (λ c. search needs)
-    (λ c. search needs)
-    (λ c. search needs)
-    (λ c. search needs)
     returns
-    returns-2
-    returns-3
-    returns-4
-    returns-5
-    returns-6
-    returns-7
-    returns-8)
+    (λ c. search needs)
+    (λ c. search needs)
+    returns-2)

@@ -1,11 +1,9 @@
 -- `entries::entry::interrupt` meets its contract. Assumes nothing.
 use borrow.Author.Needs.{needs}
-use Rattle.entries.specs.Entry.{interruptOf}
 use Rattle.entries.proofs.entry.interrupt.Statement.{statement}
 use Rattle.entries.proofs.entry.interrupt.Tie as tie
 
 returns : tie.Need-returns
-unfolding interruptOf
 returns c = c .before .before .before .before .enter .ensures
 
 pub interrupt-spec : {M : Type 1} → statement M

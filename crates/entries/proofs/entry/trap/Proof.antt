@@ -1,11 +1,9 @@
 -- `entries::entry::trap` meets its contract. Assumes nothing.
 use borrow.Author.Needs.{needs}
-use Rattle.entries.specs.Entry.{trapOf}
 use Rattle.entries.proofs.entry.trap.Statement.{statement}
 use Rattle.entries.proofs.entry.trap.Tie as tie
 
 returns : tie.Need-returns
-unfolding trapOf
 returns c = c .before .before .before .before .enter .ensures
 
 pub trap-spec : {M : Type 1} → statement M
