@@ -1,6 +1,7 @@
 -- Laws of a step.
 pub mod Setters
 pub mod Values
+pub mod Levels
 pub mod Sound
 pub mod Families
 pub mod Systems
