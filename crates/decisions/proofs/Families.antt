@@ -11,6 +11,7 @@ use Rattle.memory.specs.Memory.{Windows, Memory}
 use Rattle.memory.specs.declared.address.Address.{Address}
 use Rattle.fields.specs.Psw.{PSW·PRS, isUser0}
 use Rattle.fields.specs.Syscon.{SYSCON·PROTEN}
+use Rattle.fields.proofs.RangeSets.{level, level-flagged, level-overflowed}
 use Rattle.bounds.proofs.Results.{compute-word, compute-psw}
 use Rattle.compare.specs.Compare.{equals}
 use Rattle.integer.specs.Integer.{computeOf}
@@ -45,7 +46,6 @@ use Rattle.accesses.specs.declared.reach.Reach.the-variants.{At, Traps}
 use Rattle.decisions.specs.Valid.{Valid, Bytes}
 use Rattle.decisions.proofs.Setters.{even-word, even-even}
 use Rattle.decisions.proofs.Values.{Word, either-has, second-word, plus-word, minus-word, read-word}
-use Rattle.decisions.proofs.Levels.{level, level-flagged, level-overflowed}
 use Rattle.decisions.proofs.Sound.{Sound, EndsSound, TrapBytes, sound-start, sound-d, sound-a, sound-psw, sound-pc}
 
 -- the immediate is a word, and the next instruction's address one that is even

@@ -4,13 +4,14 @@ use Prim.Native.Nat.{ℕ, _%_, _^_, _<_}
 use native.Mathlib.Omega.{arith}
 use mathlib.Core.Path.{_≡_, refl, _∙_}
 use lib.Seq.{getD-set-other}
+use Rattle.fields.proofs.RangeSets.{level}
 use Rattle.registers.specs.Registers.{pcxi, fcx, psw, withD, withA, withPc, withPsw, withIcr}
 use Rattle.registers.specs.declared.Registers.{Registers}
 use Rattle.events.specs.declared.trap.Trap.{Trap}
 use Rattle.acts.specs.Acts.{Effect, Sets, Traps, TrapsAfter}
 use Rattle.decisions.specs.Valid.{Valid}
 use Rattle.decisions.proofs.Values.{Word}
-use Rattle.decisions.proofs.Levels.{level, Level, User, level-same, level-then, level-next, level-other, level-psw}
+use Rattle.decisions.proofs.Levels.{Level, User, level-same, level-then, level-next, level-other, level-psw}
 use Rattle.decisions.proofs.Setters.{valid-d, valid-a, valid-core, valid-pc}
 
 pub record Heads (r q : Registers) : Type 0 where

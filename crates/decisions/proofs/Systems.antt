@@ -10,6 +10,7 @@ use borrow.Author.Tests.{eqb-false}
 use Rattle.words.proofs.Truth.{either-false}
 use Rattle.fields.specs.Psw.{PSW·V, PSW·SV, isUser0, isSupervisor}
 use Rattle.fields.specs.Icr.{ICR·CCPN}
+use Rattle.fields.proofs.RangeSets.{level-reset}
 use Rattle.bounds.proofs.Fields.{icr-word, reset-psw}
 use Rattle.operations.specs.declared.System.{System}
 use Rattle.operations.specs.declared.System.the-variants.{Enable, Disable, Mfcr, Mtcr, Trapv, Trapsv, Rstv}
@@ -24,7 +25,7 @@ use Rattle.decisions.specs.Valid.{Valid}
 use Rattle.decisions.specs.Heads.{isHead, systemWrites}
 use Rattle.decisions.proofs.Setters.{valid-core}
 use Rattle.decisions.proofs.Values.{Word, either-has, either-knows}
-use Rattle.decisions.proofs.Levels.{User, level-reset, not-both}
+use Rattle.decisions.proofs.Levels.{User, not-both}
 use Rattle.decisions.proofs.Sound.{Sound, EndsSound, sound-start, sound-d, sound-psw, sound-icr}
 use Rattle.decisions.proofs.Families.{Decoded, onward, small}
 

@@ -12,6 +12,7 @@ use Rattle.fields.specs.Psw.{PSW·IS}
 use Rattle.fields.specs.Icr.{ICR·CCPN, icrOf}
 use Rattle.fields.specs.Pcxi.{PCXI·PIE, PCXI·PCPN}
 use Rattle.fields.specs.Depth.{calledOf}
+use Rattle.fields.proofs.RangeSets.{level-called}
 use Rattle.bounds.proofs.Fields.{icr-word, called-psw, or-word}
 use Rattle.registers.specs.Registers.{registers, A, pc, psw, pcxi, fcx, icr, biv, btv, syscon, withD, withPc, withIcr, newPc}
 use Rattle.registers.specs.declared.Registers.{Registers}
@@ -22,7 +23,7 @@ use Rattle.calls.specs.Returns.{rfeThen}
 use Rattle.decisions.specs.Valid.{Valid}
 use Rattle.decisions.proofs.Setters.{valid-d, valid-a, valid-core, valid-pc, even-word, even-even}
 use Rattle.decisions.proofs.Values.{Word, either-has}
-use Rattle.decisions.proofs.Levels.{ThenLevel, level-then, level-next, level-other, level-flags, level-called}
+use Rattle.decisions.proofs.Levels.{ThenLevel, level-then, level-next, level-other, level-flags}
 use Rattle.decisions.proofs.Sound.{TrapBytes}
 
 -- the registers with the heads of the lists written
