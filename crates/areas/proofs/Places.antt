@@ -54,11 +54,11 @@ found-in base len size a at e =
     record { above = t; is = omega arith; inside = omega arith }
 
 -- and in one of the two
-data Found (w : Windows) (len size : ℕ) (a : Address) (at : ℕ) : Type 0 where
+pub data Found (w : Windows) (len size : ℕ) (a : Address) (at : ℕ) : Type 0 where
   in-first : FoundIn (w .first) (firstLength w len) size a at → Found w len size a at
   in-second : (k : ℕ) → firstLength w len + k ≡ at → FoundIn (w .second) (secondLength w len) size a k → Found w len size a at
 
-found : (w : Windows) (len size : ℕ) (a : Address) (at : ℕ) → placedAt w len size a ≡ At at → Found w len size a at
+pub found : (w : Windows) (len size : ℕ) (a : Address) (at : ℕ) → placedAt w len size a ≡ At at → Found w len size a at
 unfolding placedAt spotAt
 found w len size a at = by (placedIn (w .first) (firstLength w len) size a) refl (placedIn (w .second) (secondLength w len) size a) refl
   where
