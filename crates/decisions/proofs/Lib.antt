@@ -15,3 +15,4 @@ pub mod Steps
 pub mod Owned
 pub mod Known
 pub mod Beginnings
+pub mod Readings
