@@ -1,7 +1,7 @@
 -- What an access that reaches its data has passed.
 -- Assumes nothing.
 use Prim.Native.Nat.{ℕ, _%_}
-use mathlib.Core.Path.{_≡_, ap, _∙_}
+use mathlib.Core.Path.{_≡_, refl, ap, _∙_}
 use mathlib.Core.Bool.{Bool, true, false, cond}
 use mathlib.Core.List.{List, _++_}
 use lib.ListN.{length}
@@ -28,6 +28,15 @@ never : {A : Type 0} (t : Trap) (at : ℕ) → Traps t ≡ At at → A
 never t at e = absurd (let z : _≡_ {A = ℕ} 0 1 = cc in omega arith)
 
 module _ (w : Windows) (len : ℕ) (core : List ℕ) (rs : List Range) (right : Right) (guarded : Bool) (size alignment : ℕ) (address : Address) (at : ℕ) where
+  -- the check of protection
+  pub reach-passes : reachOf w len core rs right guarded size alignment address ≡ At at → checkOf core rs right address ≡ Passes
+  unfolding reachOf
+  reach-passes = by (checkOf core rs right address)
+    where
+      by : (c : Check) → checkedReach c (alignedReach w len guarded size alignment address) ≡ At at → c ≡ Passes
+      by Passes e = refl
+      by (Fails t) e = never t at e
+
   -- the data lies in a window
   pub reach-found : reachOf w len core rs right guarded size alignment address ≡ At at → placedAt w len size address ≡ place.At at
   unfolding reachOf alignedReach

@@ -10,7 +10,7 @@ use mathlib.Core.List.{List, _++_}
 use mathlib.Core.Logic.{_⊎_, inl, inr, ⊎-elim}
 use lib.ListN.{length}
 use lib.Dec.{ltb}
-use borrow.Author.Tests.{ltb-false}
+use borrow.Author.Tests.{ltb-false, lt-ltb, le-ltb}
 use Rattle.memory.specs.Memory.{Windows, windows, lent, firstLength, secondLength}
 use Rattle.memory.proofs.Joined.{first-length, second-length}
 use Rattle.areas.specs.Link.{areaAddress}
@@ -54,11 +54,11 @@ found-in base len size a at e =
     record { above = t; is = omega arith; inside = omega arith }
 
 -- and in one of the two
-data Found (w : Windows) (len size : ℕ) (a : Address) (at : ℕ) : Type 0 where
+pub data Found (w : Windows) (len size : ℕ) (a : Address) (at : ℕ) : Type 0 where
   in-first : FoundIn (w .first) (firstLength w len) size a at → Found w len size a at
   in-second : (k : ℕ) → firstLength w len + k ≡ at → FoundIn (w .second) (secondLength w len) size a k → Found w len size a at
 
-found : (w : Windows) (len size : ℕ) (a : Address) (at : ℕ) → placedAt w len size a ≡ At at → Found w len size a at
+pub found : (w : Windows) (len size : ℕ) (a : Address) (at : ℕ) → placedAt w len size a ≡ At at → Found w len size a at
 unfolding placedAt spotAt
 found w len size a at = by (placedIn (w .first) (firstLength w len) size a) refl (placedIn (w .second) (secondLength w len) size a) refl
   where
@@ -67,6 +67,19 @@ found w len size a at = by (placedIn (w .first) (firstLength w len) size a) refl
     by (At k) e q f g = let z : k ≡ at = cc in in-first (found-in (w .first) (firstLength w len) size a at (rw (← z) e))
     by Outside e (At k) f g = let z : firstLength w len + k ≡ at = cc in in-second k z (found-in (w .second) (secondLength w len) size a k f)
     by Outside e Outside f g = absurd (never-at g)
+
+-- the address of byte k of both windows
+unfoldable pub addressAt : Windows → ℕ → ℕ → ℕ
+addressAt w len k = cond (ltb k (firstLength w len)) (w .first .0 + k) (w .second .0 + (k - firstLength w len))
+
+-- that of a byte of some that have a place
+pub address-at : (w : Windows) (len size : ℕ) (a : Address) (at k : ℕ) → placedAt w len size a ≡ At at → at ≤ k → k < at + size → a .0 + (k - at) ≡ addressAt w len k
+unfolding addressAt
+address-at w len size a at k e x y = by (found w len size a at e)
+  where
+    by : Found w len size a at → a .0 + (k - at) ≡ cond (ltb k (firstLength w len)) (w .first .0 + k) (w .second .0 + (k - firstLength w len))
+    by (in-first f) = let i = f .is in let o = f .inside in rw (lt-ltb k (firstLength w len) (omega arith)) (omega arith)
+    by (in-second j z f) = let i = f .is in rw (le-ltb k (firstLength w len) (omega arith)) (omega arith)
 
 -- the cases of the search, as the code has them
 module _ (s t : List ℕ) (base base2 : Address) (size : ℕ) (a : Address) where

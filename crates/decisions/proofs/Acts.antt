@@ -44,10 +44,11 @@ use Rattle.decisions.specs.Valid.{Valid, Bytes}
 use Rattle.decisions.specs.Heads.{headsBy, writesHead}
 use Rattle.decisions.proofs.Setters.{even-word, even-even}
 use Rattle.decisions.proofs.Values.{Word, either-has, either-knows, plus-word}
+use Rattle.decisions.proofs.Levels.{ThenLevel}
 use Rattle.decisions.proofs.Sound.{Sound, EndsSound, TrapBytes, sound-start}
 use Rattle.decisions.proofs.Families.{Decoded, small, onward, integer-sound, move-sound, jump-sound, load-sound, ReachBytes, reach-bytes}
 use Rattle.decisions.proofs.Systems.{system-sound}
-use Rattle.decisions.proofs.Thens.{Then, ReturnThen, called-then, pc-then, bisr-then, return-pc, return-rfe}
+use Rattle.decisions.proofs.Thens.{Then, ReturnThen, called-then, pc-then, bisr-then, called-level, pc-level, bisr-level, return-pc, return-rfe}
 
 -- an area is there to return to, of that half
 pub record HasPrevious (half : Half) (word : ℕ) : Type 0 where
@@ -57,7 +58,7 @@ pub record HasPrevious (half : Half) (word : ℕ) : Type 0 where
 abbrev pub ActSound : Type 0 → Registers → Memory → Act → Type 0
 ActSound quiet r m (Ends e) = EndsSound quiet r e
 ActSound quiet r m (Write op at v q) = Sound quiet r q × Word v × (at + sizeOf op ≤ length (m .bytes))
-ActSound quiet r m (Save half saved-pc then) = Word saved-pc × Then then
+ActSound quiet r m (Save half saved-pc then) = Word saved-pc × Then then × ThenLevel then
 ActSound quiet r m (Return half then) = ReturnThen then × HasPrevious half (pcxi r)
 
 module _ (quiet : Type 0) {r : Registers} (w : Valid r) (i : Instruction) (o : Decoded i) (m : Memory) where
@@ -80,12 +81,12 @@ module _ (quiet : Type 0) {r : Registers} (w : Valid r) (i : Instruction) (o : D
   call-sound : (to : ℕ) → Word to → ActSound quiet r m (callOf to (i .next) r)
   unfolding callOf
   call-sound to h =
-      either-has (ActSound quiet r m) (overflowsUp (psw r)) (small (omega arith) (omega arith)) (omega arith, called-then to (i .next) h (o .next))
+      either-has (ActSound quiet r m) (overflowsUp (psw r)) (small (omega arith) (omega arith)) (omega arith, called-then to (i .next) h (o .next), called-level to (i .next))
 
   bisr-sound : ActSound quiet r m (bisrOf (i .imm) (i .next) r)
   unfolding bisrOf
   bisr-sound =
-      either-has (ActSound quiet r m) (isSupervisor (psw r)) (o .next, bisr-then (i .imm) (i .next) (o .next) (o .even)) (small (omega arith) (omega arith))
+      either-has (ActSound quiet r m) (isSupervisor (psw r)) (o .next, bisr-then (i .imm) (i .next) (o .next) (o .even), bisr-level (i .imm) (i .next)) (small (omega arith) (omega arith))
 
   -- returns
   abbrev PreviousSays : Half → Previous → Type 0
@@ -136,7 +137,7 @@ module _ (quiet : Type 0) {r : Registers} (w : Valid r) (i : Instruction) (o : D
   context-sound Calli = call-sound (A r (i .a)) (w .a .each (i .a))
   context-sound Ret = ret-sound
   context-sound Rfe = rfe-sound
-  context-sound Svlcx = (o .next, pc-then (i .next) (o .next) (o .even))
+  context-sound Svlcx = (o .next, pc-then (i .next) (o .next) (o .even), pc-level (i .next))
   context-sound Rslcx = rslcx-sound
   context-sound Bisr = bisr-sound
   context-sound Syscall = small (omega arith) (omega arith)

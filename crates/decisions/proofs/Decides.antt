@@ -3,7 +3,7 @@
 use Prim.Native.Nat.{ℕ, _+_, _%_, _≤_, _<_, _^_}
 use native.Mathlib.Omega.{arith}
 use mathlib.Core.Path.{_≡_}
-use mathlib.Core.Bool.{Bool, true, false, cond}
+use mathlib.Core.Bool.{false}
 use mathlib.Core.List.{List}
 use lib.ListN.{getD, length}
 use lib.Dec.{eqb}
@@ -33,6 +33,7 @@ use Rattle.decisions.specs.Beginning.{Beginning, Interrupts, Traps, Exec
 use Rattle.decisions.specs.Heads.{headsWritten, stepHeads}
 use Rattle.decisions.specs.Decision.{decidedBy, decisionOf}
 use Rattle.decisions.proofs.Values.{Word, either-has, word-word}
+use Rattle.decisions.proofs.Levels.{EventLevel}
 use Rattle.decisions.proofs.Sound.{Sound, TrapBytes, EndsSound}
 use Rattle.decisions.proofs.Families.{Decoded, small, CheckBytes, check-bytes}
 use Rattle.decisions.proofs.Thens.{Then, ReturnThen, trap-then, interrupt-then}
@@ -41,15 +42,15 @@ use Rattle.decisions.proofs.Acts.{HasPrevious, ActSound, act-sound}
 abbrev pub DecisionSound : Type 0 → Registers → Memory → Decision → Type 0
 DecisionSound quiet r m (Keep q) = Sound quiet r q
 DecisionSound quiet r m (Write op at v q) = Sound quiet r q × Word v × (at + sizeOf op ≤ length (m .bytes))
-DecisionSound quiet r m (Save e half saved-pc then) = Word saved-pc × Then then
+DecisionSound quiet r m (Save e half saved-pc then) = Word saved-pc × Then then × EventLevel e then
 DecisionSound quiet r m (Return half then) = ReturnThen then × HasPrevious half (pcxi r)
 
 -- an instruction by its act
 module _ (next : ℕ) (r : Registers) (m : Memory) (p : Word (pc r)) (n : Word next) where
   effect-sound : (quiet : Type 0) (e : Effect) → EndsSound quiet r e → DecisionSound quiet r m (effectDecides (pc r) next e)
   effect-sound quiet (acts.Sets q) s = s
-  effect-sound quiet (acts.Traps t) s = (omega arith, trap-then t (pc r) s p)
-  effect-sound quiet (acts.TrapsAfter t) s = (omega arith, trap-then t next s n)
+  effect-sound quiet (acts.Traps t) s = (omega arith, trap-then t (pc r) s p, tt)
+  effect-sound quiet (acts.TrapsAfter t) s = (omega arith, trap-then t next s n, tt)
 
   act-decided : (quiet : Type 0) (a : Act) → ActSound quiet r m a → DecisionSound quiet r m (actDecides next r a)
   act-decided quiet (acts.Ends e) s = effect-sound quiet e s
@@ -88,8 +89,8 @@ module _ {img : List ℕ} (bi : Bytes img) {r : Registers} (w : Valid r) (xs : L
 
   module _ (m : Memory) (b : Bytes (m .bytes)) where
     begun-sound : (s : Beginning) → Known s → DecisionSound (headsWritten r s ≡ false) r m (decidedBy r rs m s)
-    begun-sound (Interrupts x) h = (omega arith, interrupt-then (x .level) h)
-    begun-sound (Traps t) h = (omega arith, trap-then t (pc r) h (w .core .each 0))
+    begun-sound (Interrupts x) h = (omega arith, interrupt-then (x .level) h, tt)
+    begun-sound (Traps t) h = (omega arith, trap-then t (pc r) h (w .core .each 0), tt)
     begun-sound (Executes i) h = act-decided (i .next) r m (w .core .each 0) (h .next) _ (actOf i r rs m) (act-sound w i h rs m b)
 
     pub decision-sound : DecisionSound (stepHeads img r xs rs ≡ false) r m (decisionOf img r xs rs m)

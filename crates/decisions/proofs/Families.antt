@@ -11,10 +11,12 @@ use Rattle.memory.specs.Memory.{Windows, Memory}
 use Rattle.memory.specs.declared.address.Address.{Address}
 use Rattle.fields.specs.Psw.{PSW·PRS, isUser0}
 use Rattle.fields.specs.Syscon.{SYSCON·PROTEN}
+use Rattle.fields.proofs.RangeSets.{level, level-flagged, level-overflowed}
 use Rattle.bounds.proofs.Results.{compute-word, compute-psw}
 use Rattle.compare.specs.Compare.{equals}
 use Rattle.integer.specs.Integer.{computeOf}
 use Rattle.integer.specs.declared.Integer.{Integer}
+use Rattle.integer.proofs.Status.{psw-of}
 use Rattle.operations.specs.declared.Move.{Move}
 use Rattle.operations.specs.declared.Move.the-variants.{MovA, MovD, MovAa, AddA, SubA}
 use Rattle.operations.specs.declared.Jump.{Jump}
@@ -22,7 +24,7 @@ use Rattle.operations.specs.declared.Jump.the-variants.{J, Jl, Ji, Jeq, Jne, Jl
 use Rattle.operations.specs.declared.Load.{Load}
 use Rattle.operations.specs.declared.Load.the-variants.{LdB, LdBu, LdH, LdHu, LdW, LdA}
 use Rattle.image.specs.declared.fetch.Instruction.{Instruction}
-use Rattle.registers.specs.Registers.{D, A, pc, psw, withPc, secondOf, plusOf, newPc, guards}
+use Rattle.registers.specs.Registers.{D, A, pc, psw, withPc, secondOf, plusOf, guards}
 use Rattle.registers.specs.declared.Registers.{Registers}
 use Rattle.events.specs.Traps.{MPP}
 use Rattle.protection.specs.Range.{permitted}
@@ -71,7 +73,7 @@ module _ (quiet : Type 0) {r : Registers} (w : Valid r) where
         let v = computeOf op (D r (i .a)) (secondOf (r .d) (i .b) (i .imm)) (psw r) in
         onward {i = i} o
         (sound-psw (sound-d (sound-start w) (i .c) (v .word) (compute-word op _ _ _ (w .d .each (i .a)) (second-word (i .b) (i .imm) (w .d) (o .imm))))
-        (v .psw) (compute-psw op _ _ _ (w .core .each 1)))
+        (v .psw) (compute-psw op _ _ _ (w .core .each 1)) (psw-of (λ (p : ℕ). level p ≡ level (psw r)) (psw r) refl (level-overflowed (psw r)) (level-flagged (psw r)) op _ _))
 
     address-sound : (c value : ℕ) → Word value → EndsSound quiet r (addressWrite c value (i .next) r)
     unfolding addressWrite

@@ -1,6 +1,7 @@
 -- Laws of a step.
 pub mod Setters
 pub mod Values
+pub mod Levels
 pub mod Sound
 pub mod Families
 pub mod Systems
@@ -14,3 +15,4 @@ pub mod Steps
 pub mod Owned
 pub mod Known
 pub mod Beginnings
+pub mod Readings

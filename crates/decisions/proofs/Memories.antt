@@ -8,6 +8,7 @@ use lib.ListN.{length, getD, set, take, drop, length-set}
 use lib.Seq.{sets, getD-drop}
 use Rattle.memory.specs.Word.{wordsAt, putByte, putHalf, putWord, putWords}
 use Rattle.memory.proofs.Words.{putWord-length}
+use Rattle.memory.proofs.Same.{Same, same-byte, same-half, same-word}
 use Rattle.areas.specs.Area.{areaAt}
 use Rattle.operations.specs.declared.Store.{Store}
 use Rattle.operations.specs.declared.Store.the-variants.{StB, StH, StW, StA}
@@ -49,6 +50,12 @@ stored-length StB s at v = length-set s at (v % 0x100)
 stored-length StH s at v = length-set (set s at (v % 0x100)) (at + 1) (v / 0x100 % 0x100) ∙ length-set s at (v % 0x100)
 stored-length StW s at v = putWord-length s at v
 stored-length StA s at v = putWord-length s at v
+
+pub same-stored : {same : ℕ → Type 0} {s t : List ℕ} (op : Store) (at v : ℕ) → Same same s t → Same same (storedOf op s at v) (storedOf op t at v)
+same-stored StB at v h = same-byte at v h
+same-stored StH at v h = same-half at v h
+same-stored StW at v h = same-word at v h
+same-stored StA at v h = same-word at v h
 
 -- an area's bytes, and its words
 take-below : (n : ℕ) (s : List ℕ) → ((k : ℕ) → getD s k 0 < 2 ^ 8) → (k : ℕ) → getD (take n s) k 0 < 2 ^ 8

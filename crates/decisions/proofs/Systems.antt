@@ -2,7 +2,7 @@
 -- Assumes nothing.
 use Prim.Native.Nat.{ℕ, _<_}
 use native.Mathlib.Omega.{arith}
-use mathlib.Core.Path.{_≡_, refl, sym}
+use mathlib.Core.Path.{_≡_, sym}
 use mathlib.Core.Bool.{Bool, true, false, _&&_}
 use lib.Seq.{getD-set-other}
 use lib.Dec.{eqb}
@@ -10,6 +10,7 @@ use borrow.Author.Tests.{eqb-false}
 use Rattle.words.proofs.Truth.{either-false}
 use Rattle.fields.specs.Psw.{PSW·V, PSW·SV, isUser0, isSupervisor}
 use Rattle.fields.specs.Icr.{ICR·CCPN}
+use Rattle.fields.proofs.RangeSets.{level-reset}
 use Rattle.bounds.proofs.Fields.{icr-word, reset-psw}
 use Rattle.operations.specs.declared.System.{System}
 use Rattle.operations.specs.declared.System.the-variants.{Enable, Disable, Mfcr, Mtcr, Trapv, Trapsv, Rstv}
@@ -24,6 +25,7 @@ use Rattle.decisions.specs.Valid.{Valid}
 use Rattle.decisions.specs.Heads.{isHead, systemWrites}
 use Rattle.decisions.proofs.Setters.{valid-core}
 use Rattle.decisions.proofs.Values.{Word, either-has, either-knows}
+use Rattle.decisions.proofs.Levels.{User, not-both}
 use Rattle.decisions.proofs.Sound.{Sound, EndsSound, sound-start, sound-d, sound-psw, sound-icr}
 use Rattle.decisions.proofs.Families.{Decoded, onward, small}
 
@@ -53,9 +55,9 @@ module _ {r : Registers} (w : Valid r) where
   read-word (Register k) = w .core .each k
   read-word Nothing = omega arith
 
-  written-sound : (n : Named) → NotPc n → (v : ℕ) → Word v → Sound (isHead n ≡ false) r (registers (r .d) (r .a) (writtenBy (r .core) v n))
-  written-sound Pc h v g = sound-start w
-  written-sound (Register k) h v g =
+  written-sound : (User r → ⊥) → (n : Named) → NotPc n → (v : ℕ) → Word v → Sound (isHead n ≡ false) r (registers (r .d) (r .a) (writtenBy (r .core) v n))
+  written-sound x Pc h v g = sound-start w
+  written-sound x (Register k) h v g =
       record {
         valid = valid-core w k v h g;
         heads = λ q.
@@ -64,11 +66,12 @@ module _ {r : Registers} (w : Valid r) where
               fcx-same = getD-set-other (r .core) k 3 v 0 (λ e. eqb-false k 3 (n .1) (sym e));
               pcxi-same = getD-set-other (r .core) k 2 v 0 (λ e. eqb-false k 2 (n .0) (sym e));
             });
+        level = λ u. absurd (x u);
       }
-  written-sound Nothing h v g = sound-start w
+  written-sound x Nothing h v g = sound-start w
 
   weaken : {p q : Type 0} {s : Registers} → (p → q) → Sound q r s → Sound p r s
-  weaken f s = record { valid = s .valid; heads = λ x. s .heads (f x) }
+  weaken f s = record { valid = s .valid; heads = λ x. s .heads (f x); level = s .level }
 
   module _ (i : Instruction) (o : Decoded i) where
     enable-sound : (quiet : Type 0) (ie : Bool) → EndsSound quiet r (enableOf ie (i .next) r)
@@ -85,8 +88,8 @@ module _ {r : Registers} (w : Valid r) where
     system-sound Mtcr =
         let quiet : Type 0 = (isSupervisor (psw r) && isHead (namedOf (i .imm))) ≡ false in
         either-knows (EndsSound quiet r) (isSupervisor (psw r))
-        (λ e. onward quiet w {i = i} o (weaken (λ h. (rw e at h)) (written-sound (namedOf (i .imm)) (named-not (i .imm)) (D r (i .a)) (w .d .each (i .a)))))
+        (λ e. onward quiet w {i = i} o (weaken (λ h. (rw e at h)) (written-sound (not-both r e) (namedOf (i .imm)) (named-not (i .imm)) (D r (i .a)) (w .d .each (i .a)))))
         (λ e. small (omega arith) (omega arith))
     system-sound Trapv = either-has (EndsSound _ r) (PSW·V (psw r)) (small (omega arith) (omega arith)) (onward _ w {i = i} o (sound-start w))
     system-sound Trapsv = either-has (EndsSound _ r) (PSW·SV (psw r)) (small (omega arith) (omega arith)) (onward _ w {i = i} o (sound-start w))
-    system-sound Rstv = onward _ w {i = i} o (sound-psw (sound-start w) _ (reset-psw (psw r)))
+    system-sound Rstv = onward _ w {i = i} o (sound-psw (sound-start w) _ (reset-psw (psw r)) (level-reset (psw r)))

@@ -12,8 +12,9 @@ use Rattle.fields.specs.Psw.{PSW·IS}
 use Rattle.fields.specs.Icr.{ICR·CCPN, icrOf}
 use Rattle.fields.specs.Pcxi.{PCXI·PIE, PCXI·PCPN}
 use Rattle.fields.specs.Depth.{calledOf}
+use Rattle.fields.proofs.RangeSets.{level-called}
 use Rattle.bounds.proofs.Fields.{icr-word, called-psw, or-word}
-use Rattle.registers.specs.Registers.{registers, A, pc, psw, pcxi, fcx, icr, biv, btv, withD, withPc, withIcr, newPc}
+use Rattle.registers.specs.Registers.{registers, A, pc, psw, pcxi, fcx, icr, biv, btv, syscon, withD, withPc, withIcr, newPc}
 use Rattle.registers.specs.declared.Registers.{Registers}
 use Rattle.events.specs.declared.trap.Trap.{Trap}
 use Rattle.entries.specs.Entry.{stackOf, enteredOf, trapEntry, interruptEntry}
@@ -22,6 +23,7 @@ use Rattle.calls.specs.Returns.{rfeThen}
 use Rattle.decisions.specs.Valid.{Valid}
 use Rattle.decisions.proofs.Setters.{valid-d, valid-a, valid-core, valid-pc, even-word, even-even}
 use Rattle.decisions.proofs.Values.{Word, either-has}
+use Rattle.decisions.proofs.Levels.{ThenLevel, level-then, level-next, level-other, level-flags}
 use Rattle.decisions.proofs.Sound.{TrapBytes}
 
 -- the registers with the heads of the lists written
@@ -132,6 +134,7 @@ pub record ReturnThen (then : Registers → Registers) : Type 0 where
   pub psw-same : (q : Registers) → psw (then q) ≡ psw q
   pub pcxi-same : (q : Registers) → pcxi (then q) ≡ pcxi q
   pub fcx-same : (q : Registers) → fcx (then q) ≡ fcx q
+  pub syscon-same : (q : Registers) → syscon (then q) ≡ syscon q
 
 pub return-pc : (to : ℕ) → Word to → to % 2 ≡ 0 → ReturnThen (withPc to)
 return-pc to h e =
@@ -142,6 +145,7 @@ return-pc to h e =
       psw-same = λ q. getD-set-other (q .core) 0 1 to 0 (λ x. omega arith);
       pcxi-same = λ q. getD-set-other (q .core) 0 2 to 0 (λ x. omega arith);
       fcx-same = λ q. getD-set-other (q .core) 0 3 to 0 (λ x. omega arith);
+      syscon-same = λ q. getD-set-other (q .core) 0 9 to 0 (λ x. omega arith);
     }
 
 pub return-rfe : (r : Registers) → Valid r → ReturnThen (rfeThen r)
@@ -156,4 +160,19 @@ return-rfe r v =
       psw-same = λ q. getD-set-other (set (q .core) 5 i) 0 1 to 0 (λ x. omega arith) ∙ getD-set-other (q .core) 5 1 i 0 (λ x. omega arith);
       pcxi-same = λ q. getD-set-other (set (q .core) 5 i) 0 2 to 0 (λ x. omega arith) ∙ getD-set-other (q .core) 5 2 i 0 (λ x. omega arith);
       fcx-same = λ q. getD-set-other (set (q .core) 5 i) 0 3 to 0 (λ x. omega arith) ∙ getD-set-other (q .core) 5 3 i 0 (λ x. omega arith);
+      syscon-same = λ q. getD-set-other (set (q .core) 5 i) 0 9 to 0 (λ x. omega arith) ∙ getD-set-other (q .core) 5 9 i 0 (λ x. omega arith);
     }
+
+-- what follows the save of an instruction leaves IO, PRS and SYSCON
+pub called-level : (to next : ℕ) → ThenLevel (calledThen to next)
+unfolding calledThen
+called-level to next q v = level-flags _ _ _ _ q v (level-called (psw q))
+
+pub pc-level : (next : ℕ) → ThenLevel (withPc next)
+pc-level next q v = level-next (q .d) (q .a) next q
+
+pub bisr-level : (imm next : ℕ) → ThenLevel (bisrThen imm next)
+unfolding bisrThen
+bisr-level imm next q v =
+    let i = icrOf (icr q) true imm in
+    level-then {q = withIcr i q} (level-other 5 i (q .d) (q .a) q (λ e. omega arith) (λ e. omega arith)) (level-next (q .d) (q .a) next (withIcr i q))

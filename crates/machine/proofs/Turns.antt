@@ -3,7 +3,7 @@
 use Prim.Native.Nat.{ℕ, zero, suc, _+_, _%_, _<_}
 use native.Mathlib.Omega.{arith}
 use mathlib.Core.Path.{_≡_, refl, sym, subst, _∙_}
-use mathlib.Core.Bool.{true, false}
+use mathlib.Core.Bool.{false}
 use mathlib.Core.List.{List}
 use lib.ListN.{length}
 use Rattle.memory.specs.Memory.{Memory}
@@ -39,7 +39,7 @@ unfolding stepOf
 accepted-step img r xs rs m e = rw e
 
 -- the rules of a step are about where the windows lie and their lengths, the image, and whether PC is even
-same-verdict : (m n : Memory) (img : List ℕ) (p q : ℕ) → n .windows ≡ m .windows → length (n .bytes) ≡ length (m .bytes) → p % 2 ≡ 0 → q % 2 ≡ 0 → stepVerdict n img q ≡ stepVerdict m img p
+pub same-verdict : (m n : Memory) (img : List ℕ) (p q : ℕ) → n .windows ≡ m .windows → length (n .bytes) ≡ length (m .bytes) → p % 2 ≡ 0 → q % 2 ≡ 0 → stepVerdict n img q ≡ stepVerdict m img p
 unfolding stepVerdict
 same-verdict m n img p q b l e f = rw (b, l, e, f)
 

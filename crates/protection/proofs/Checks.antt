@@ -1,8 +1,9 @@
 -- What a check answers and which range is named, case by case.
 -- Assumes nothing.
 use Prim.Native.Nat.{ℕ, _<_}
-use mathlib.Core.Path.{_≡_}
-use mathlib.Core.Bool.{true, false}
+use native.Mathlib.Omega.{arith}
+use mathlib.Core.Path.{_≡_, refl}
+use mathlib.Core.Bool.{Bool, true, false, cond}
 use mathlib.Core.List.{List}
 use lib.ListN.{getD}
 use borrow.Author.Tests.{lt-leb}
@@ -10,6 +11,7 @@ use Rattle.fields.specs.Psw.{PSW·PRS, isUser0}
 use Rattle.fields.specs.Syscon.{SYSCON·PROTEN}
 use Rattle.memory.specs.declared.address.Address.{Address}
 use Rattle.events.specs.Traps.{MPP}
+use Rattle.events.specs.declared.trap.Trap.{Trap}
 use Rattle.protection.specs.Range.{permitted, lowestOf, PermittedBy}
 use Rattle.protection.specs.Access.{deniedOf, peripheral, checkOf, permitOf}
 use Rattle.protection.specs.declared.range.Range.{Range}
@@ -17,6 +19,9 @@ use Rattle.protection.specs.declared.range.Right.{Right}
 use Rattle.protection.specs.declared.range.Permit.the-variants.{Unnamed}
 use Rattle.protection.specs.declared.access.Check.the-variants.{Passes, Fails}
 use Rattle.protection.proofs.Searches.{permitted-by}
+
+never : {t : Trap} → Fails t ≡ Passes → ⊥
+never e = let z : _≡_ {A = ℕ} 0 1 = cc in omega arith
 
 module _ (core : List ℕ) (rs : List Range) (right : Right) (address : Address) where
   -- the range named
@@ -58,3 +63,13 @@ module _ (core : List ℕ) (rs : List Range) (right : Right) (address : Address)
       → checkOf other rs right address ≡ checkOf core rs right address
   unfolding checkOf
   same-check other h p q = rw (lt-leb _ _ h, p, q)
+
+  -- what passes for User-0 is no peripheral, so with protection on a range permits it
+  pub passes-permitted : isUser0 (getD core 1 0) ≡ true → SYSCON·PROTEN (getD core 9 0) ≡ true → checkOf core rs right address ≡ Passes → permitted rs (PSW·PRS (getD core 1 0)) right address ≡ true
+  unfolding checkOf
+  passes-permitted u p e = by (peripheral address) (permitted rs (PSW·PRS (getD core 1 0)) right address) (rw (u, p) at e)
+    where
+      by : (b g : Bool) → cond b (Fails MPP) (cond g Passes (Fails (deniedOf right))) ≡ Passes → g ≡ true
+      by b true e = refl
+      by true false e = absurd (never e)
+      by false false e = absurd (never e)

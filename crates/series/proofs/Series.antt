@@ -94,6 +94,16 @@ module _ (L : List Link) (a : Args) (b : AbstractLists) where
           }
 
 -- ---- a run
+-- a run that is refused is its first step, refused
+pub run-state : (n : ℕ) (img : List ℕ) (r : Registers) (xs : List ℕ) (rs : List Range) (m : Memory) → afterRun (runOf n img r xs rs m) ≡ afterRun (runFrom n img rs (outcome.Made event.Instruction) 0 r xs m)
+unfolding runFrom
+run-state n img r xs rs m = by (stepVerdict m img (pc r)) refl n
+  where
+    by : (v : Verdict) → stepVerdict m img (pc r) ≡ v → (n : ℕ) → afterRun (runOf n img r xs rs m) ≡ afterRun (runFrom n img rs (outcome.Made event.Instruction) 0 r xs m)
+    by Accepted e n = rw (run-accepted img r xs rs m n e)
+    by (Refused x) e zero = rw (run-refused img r xs rs m x e 0)
+    by (Refused x) e (suc n) = rw (run-refused img r xs rs m x e (suc n), step-refused img r xs rs m x e)
+
 module _ (L : List Link) where
   pub run-turns : (n : ℕ) (img : Image) (rs : List Range) (last : Outcome) (k : ℕ) (r : Registers) (xs : List ℕ) (m : Memory) (b : AbstractLists) → Inv L (state r m) b → AllQuiet L (runArgs n img rs r xs m)
       → Inv L (afterRun (runFrom n (img .bytes) rs last k r xs m)) (movedAll (runArgs n img rs r xs m) b) × EachStep (runArgs n img rs r xs m) b
@@ -113,16 +123,6 @@ module _ (L : List Link) where
       by s now rest next i f (outcome.Made e) h = f h
       by s now rest next i f (outcome.Stopped x) h = (i, tt)
       by s now rest next i f (outcome.Refused x) h = (i, tt)
-
-  -- a run that is refused is its first step, refused
-  run-state : (n : ℕ) (img : List ℕ) (r : Registers) (xs : List ℕ) (rs : List Range) (m : Memory) → afterRun (runOf n img r xs rs m) ≡ afterRun (runFrom n img rs (outcome.Made event.Instruction) 0 r xs m)
-  unfolding runFrom
-  run-state n img r xs rs m = by (stepVerdict m img (pc r)) refl n
-    where
-      by : (v : Verdict) → stepVerdict m img (pc r) ≡ v → (n : ℕ) → afterRun (runOf n img r xs rs m) ≡ afterRun (runFrom n img rs (outcome.Made event.Instruction) 0 r xs m)
-      by Accepted e n = rw (run-accepted img r xs rs m n e)
-      by (Refused x) e zero = rw (run-refused img r xs rs m x e 0)
-      by (Refused x) e (suc n) = rw (run-refused img r xs rs m x e (suc n), step-refused img r xs rs m x e)
 
   -- ---- a call
   kind-turns : (k : Kind) (c : Call) (s : State) (b : AbstractLists) → Inv L s b → AllQuiet L (kindArgs k c s) → Inv L (afterKind k c s) (movedAll (kindArgs k c s) b) × EachStep (kindArgs k c s) b

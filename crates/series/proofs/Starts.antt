@@ -81,7 +81,7 @@ module _ (s : State) (v : Valid (s .registers)) (y : Bytes (s .memory .bytes)) (
       let r = read-all m (sound .used) (pcxi (s .registers)) used-met in
       (lists (sound .free) (r .saved), record { free = free-met; saved = r .stacked })
 
-  start-inv : (b : AbstractLists) → Agree s b → Inv (listed b) s b
+  pub start-inv : (b : AbstractLists) → Agree s b → Inv (listed b) s b
   start-inv b a =
       let f : b .free ≡ sound .free = leads-alike m (b .free) (sound .free) (linkOf (fcx (s .registers))) (a .free) free-met in
       let u : links (b .saved) ≡ sound .used = leads-alike m (links (b .saved)) (sound .used) (linkOf (pcxi (s .registers))) (stacked-leads m (b .saved) (pcxi (s .registers)) (a .saved)) used-met in

@@ -63,7 +63,7 @@ pub record Fetchable (core : List ℕ) (rs : List Range) (pc most n : ℕ) : Typ
 
 module _ (core : List ℕ) (rs : List Range) (pc most : ℕ) (n0 : 0 < most) where
   all-unasked : SYSCON·PROTEN (getD core 9 0) ≡ false → Fetchable core rs pc most most
-  all-unasked p = record { some = n0; within = omega arith; passes = λ a l h b. sym (unasked core rs Execute (asAddress a) b p) }
+  all-unasked p = record { some = n0; within = omega arith; passes = λ a l h b. sym (unasked core rs Execute (asAddress a) (lt-leb _ _ b) p) }
 
   the-first : checkOf core rs Execute (asAddress pc) ≡ Passes → Fetchable core rs pc most 1
   the-first p =
@@ -79,7 +79,7 @@ module _ (core : List ℕ) (rs : List Range) (pc most : ℕ) (n0 : 0 < most) whe
       record {
         some = s;
         within = w;
-        passes = λ x l h b. sym (allowed core rs Execute (asAddress x) k b p (onward rs (PSW·PRS (getD core 1 0)) Execute (asAddress pc) k a (asAddress x) l (omega arith)));
+        passes = λ x l h b. sym (allowed core rs Execute (asAddress x) k (lt-leb _ _ b) p (onward rs (PSW·PRS (getD core 1 0)) Execute (asAddress pc) k a (asAddress x) l (omega arith)));
       }
 
   pub fetchable-says : checkOf core rs Execute (asAddress pc) ≡ Passes → Fetchable core rs pc most (fetchableOf core rs pc most)

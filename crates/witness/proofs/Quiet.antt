@@ -56,11 +56,11 @@ use Rattle.witness.specs.Series.{calls}
 use Rattle.witness.specs.Lists.{begun}
 
 -- the areas of the links end at byte e
-abbrev Before : Memory → ℕ → List Link → Type 0
+abbrev pub Before : Memory → ℕ → List Link → Type 0
 Before m e [] = Unit {0}
 Before m e (k ∷ ks) = ((at : ℕ) × (placeOf m k ≡ At at) × (at + 64 ≤ e)) × Before m e ks
 
-before : (m : Memory) (e : ℕ) (ks : List Link) → Before m e ks → (l : Link) → 1 ≤ count l ks → (area : ℕ) → placeOf m l ≡ At area → area + 64 ≤ e
+pub before : (m : Memory) (e : ℕ) (ks : List Link) → Before m e ks → (l : Link) → 1 ≤ count l ks → (area : ℕ) → placeOf m l ≡ At area → area + 64 ≤ e
 before m e [] h l c area p = absurd (omega (arith, c))
 before m e (k ∷ ks) h l c area p =
     ⊎-elim
