@@ -1,6 +1,6 @@
 -- Loads (002, 8.7 and chapter 9).
 use Prim.Native.Nat.{ℕ, _+_}
-use mathlib.Core.Bool.{Bool, false, cond}
+use mathlib.Core.Bool.{Bool, true, false, cond, _&&_}
 use mathlib.Core.List.{List}
 use lib.ListN.{length, getD}
 use lib.Dec.{ltb}
@@ -48,14 +48,14 @@ alignmentOf LdHu = 2
 alignmentOf LdW = 2
 alignmentOf LdA = 4
 
--- LD.A writes an address register
-abbrev pub loadGuards : Load → ℕ → ℕ → Bool
-loadGuards LdB p c = false
-loadGuards LdBu p c = false
-loadGuards LdH p c = false
-loadGuards LdHu p c = false
-loadGuards LdW p c = false
-loadGuards LdA p c = guards p c
+-- LD.A loads an address register, the others a data register
+abbrev pub loadsAddress : Load → Bool
+loadsAddress LdB = false
+loadsAddress LdBu = false
+loadsAddress LdH = false
+loadsAddress LdHu = false
+loadsAddress LdW = false
+loadsAddress LdA = true
 
 -- the value at a place
 unfoldable pub readOf : Load → List ℕ → ℕ → ℕ
@@ -68,12 +68,7 @@ readOf LdA bytes at = wordAt bytes at
 
 -- it goes to D[c], LD.A's to A[c]
 abbrev pub putOf : Load → ℕ → ℕ → Registers → Registers
-putOf LdB c v r = withD c v r
-putOf LdBu c v r = withD c v r
-putOf LdH c v r = withD c v r
-putOf LdHu c v r = withD c v r
-putOf LdW c v r = withD c v r
-putOf LdA c v r = withA c v r
+putOf op c v r = cond (loadsAddress op) (withA c v r) (withD c v r)
 
 abbrev pub loadBy : Load → Instruction → Registers → Memory → Reach → Effect
 loadBy op i r m (Traps t) = acts.Traps t
@@ -82,4 +77,4 @@ loadBy op i r m (At at) = Sets (withPc (i .next) (putOf op (i .c) (readOf op (m 
 -- register c = the value at A[a] plus immediate
 unfoldable pub loadOf : Load → Instruction → Registers → List Range → Memory → Effect
 loadOf op i r rs m =
-    loadBy op i r m (reachOf (m .windows) (length (m .bytes)) (r .core) rs Read (loadGuards op (psw r) (i .c)) (sizeOf op) (alignmentOf op) (addressIn i (r .a)))
+    loadBy op i r m (reachOf (m .windows) (length (m .bytes)) (r .core) rs Read (loadsAddress op && guards (psw r) (i .c)) (sizeOf op) (alignmentOf op) (addressIn i (r .a)))

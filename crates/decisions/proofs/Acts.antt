@@ -41,7 +41,7 @@ use Rattle.calls.specs.declared.returns.Previous.{Previous}
 use Rattle.calls.specs.declared.returns.Previous.the-variants.{There, Traps}
 use Rattle.execute.specs.Execute.{actBy, actOf}
 use Rattle.decisions.specs.Valid.{Valid, Bytes}
-use Rattle.decisions.specs.Heads.{headsBy, writesHead}
+use Rattle.decisions.specs.Heads.{writesHead}
 use Rattle.decisions.proofs.Setters.{even-word, even-even}
 use Rattle.decisions.proofs.Values.{Word, either-has, either-knows, plus-word}
 use Rattle.decisions.proofs.Levels.{ThenLevel}
@@ -143,7 +143,7 @@ module _ (quiet : Type 0) {r : Registers} (w : Valid r) (i : Instruction) (o : D
   context-sound Syscall = small (omega arith) (omega arith)
 
 module _ {r : Registers} (w : Valid r) (i : Instruction) (o : Decoded i) (rs : List Range) (m : Memory) (b : Bytes (m .bytes)) where
-  by-sound : (op : Operation) → ActSound (headsBy op i r ≡ false) r m (actBy op i r rs m)
+  by-sound : (op : Operation) → ActSound (writesHead op i r ≡ false) r m (actBy op i r rs m)
   by-sound operation.Nop = onward _ w {i = i} o (sound-start w)
   by-sound (operation.Integer op) = integer-sound _ w i o op
   by-sound (operation.Move op) = move-sound _ w i o op
@@ -153,6 +153,6 @@ module _ {r : Registers} (w : Valid r) (i : Instruction) (o : Decoded i) (rs : L
   by-sound (operation.Context op) = context-sound _ w i o m op
   by-sound (operation.System op) = system-sound w i o op
 
-  pub act-sound : ActSound (writesHead i r ≡ false) r m (actOf i r rs m)
+  pub act-sound : ActSound (writesHead (i .op) i r ≡ false) r m (actOf i r rs m)
   unfolding actOf
   act-sound = by-sound (i .op)

@@ -3,7 +3,7 @@
 use Prim.Native.Nat.{ℕ, _%_, _^_, _<_}
 use native.Mathlib.Omega.{arith}
 use mathlib.Core.Path.{_≡_, refl}
-use mathlib.Core.Bool.{Bool, not, _||_}
+use mathlib.Core.Bool.{Bool, not, _&&_, _||_}
 use mathlib.Core.List.{List}
 use lib.ListN.{length, getD}
 use lib.Dec.{eqb}
@@ -40,7 +40,7 @@ use Rattle.areas.specs.declared.link.Place.the-variants as place
 use Rattle.moves.specs.Moves.{integerOf, addressWrite, moveOf}
 use Rattle.jumps.specs.Jumps.{targetOf, branchOf, holds, compareOf, loopOf, jumpOf}
 use Rattle.accesses.specs.Reach.{placedReach, alignedReach, checkedReach, reachOf}
-use Rattle.accesses.specs.Load.{addressIn, loadGuards, readOf, putOf, loadBy, loadOf, sizeOf, alignmentOf}
+use Rattle.accesses.specs.Load.{addressIn, loadsAddress, readOf, putOf, loadBy, loadOf, sizeOf, alignmentOf}
 use Rattle.accesses.specs.declared.reach.Reach.{Reach}
 use Rattle.accesses.specs.declared.reach.Reach.the-variants.{At, Traps}
 use Rattle.decisions.specs.Valid.{Valid, Bytes}
@@ -180,7 +180,7 @@ module _ (quiet : Type 0) {r : Registers} (w : Valid r) (i : Instruction) (o : D
   pub load-sound : (rs : List Range) (op : Load) → EndsSound quiet r (loadOf op i r rs m)
   unfolding loadOf
   load-sound rs op =
-      let g = loadGuards op (psw r) (i .c) in
+      let g = loadsAddress op && guards (psw r) (i .c) in
       let at = addressIn i (r .a) in
       reached-sound op (reachOf (m .windows) (length (m .bytes)) (r .core) rs right.Read g (sizeOf op) (alignmentOf op) at)
       (reach-bytes (m .windows) (length (m .bytes)) (r .core) rs right.Read g (sizeOf op) (alignmentOf op) at)

@@ -3,7 +3,7 @@
 use Prim.Native.Nat.{ℕ, _+_, _≤_, _<_}
 use native.Mathlib.Omega.{arith}
 use mathlib.Core.Path.{_≡_, refl, sym, ap, _∙_}
-use mathlib.Core.Bool.{true}
+use mathlib.Core.Bool.{true, _&&_}
 use mathlib.Core.List.{List}
 use lib.ListN.{length, getD}
 use Rattle.memory.specs.Memory.{Windows, Memory, memory}
@@ -15,7 +15,7 @@ use Rattle.fields.specs.Psw.{PSW·PRS}
 use Rattle.fields.specs.Syscon.{SYSCON·PROTEN}
 use Rattle.areas.specs.Place.{placedAt}
 use Rattle.areas.specs.declared.link.Place.the-variants as place
-use Rattle.registers.specs.Registers.{psw, syscon, withPc}
+use Rattle.registers.specs.Registers.{psw, syscon, withPc, guards}
 use Rattle.registers.specs.declared.Registers.{Registers}
 use Rattle.protection.specs.Range.{permitted}
 use Rattle.protection.specs.declared.range.Range.{Range}
@@ -29,7 +29,7 @@ use Rattle.operations.specs.declared.Store.{Store}
 use Rattle.image.specs.declared.fetch.Instruction.{Instruction}
 use Rattle.acts.specs.Acts.{Ends, Sets}
 use Rattle.accesses.specs.Reach.{reachOf}
-use Rattle.accesses.specs.Load.{extendByte, sizeOf, alignmentOf, loadGuards, readOf, putOf, loadBy, loadOf, addressIn}
+use Rattle.accesses.specs.Load.{extendByte, sizeOf, alignmentOf, loadsAddress, readOf, putOf, loadBy, loadOf, addressIn}
 use Rattle.accesses.specs.Store.{storeOf}
 use Rattle.accesses.specs.declared.reach.Reach.{Reach}
 use Rattle.accesses.specs.declared.reach.Reach.the-variants.{At, Traps}
@@ -80,9 +80,9 @@ module _ {same : ℕ → Type 0} (w : Windows) (s t : List ℕ) (h : Same same s
   unfolding loadOf
   load-same op i =
       rw (h .size)
-      (by (reachOf w (length s) (r .core) rs right.Read (loadGuards op (psw r) (i .c)) (sizeOf op) (alignmentOf op) (addressIn i (r .a))) refl)
+      (by (reachOf w (length s) (r .core) rs right.Read (loadsAddress op && guards (psw r) (i .c)) (sizeOf op) (alignmentOf op) (addressIn i (r .a))) refl)
     where
-      by : (p : Reach) → reachOf w (length s) (r .core) rs right.Read (loadGuards op (psw r) (i .c)) (sizeOf op) (alignmentOf op) (addressIn i (r .a)) ≡ p → loadBy op i r n p ≡ loadBy op i r m p
+      by : (p : Reach) → reachOf w (length s) (r .core) rs right.Read (loadsAddress op && guards (psw r) (i .c)) (sizeOf op) (alignmentOf op) (addressIn i (r .a)) ≡ p → loadBy op i r n p ≡ loadBy op i r m p
       by (Traps x) e = refl
       by (At at) e =
           let a = addressIn i (r .a) in

@@ -21,7 +21,7 @@ use Rattle.contexts.specs.declared.context.Half.{Half}
 use Rattle.contexts.specs.declared.context.Half.the-variants.{Upper, Lower}
 use Rattle.entries.specs.Entry.{MadeOf, made}
 use Rattle.decisions.specs.Valid.{Valid, Bytes}
-use Rattle.execute.specs.Decision.{returningBy, returningOf}
+use Rattle.execute.specs.Decision.{Return, returningBy, performedOf}
 use Rattle.decisions.proofs.Setters.{valid-core}
 use Rattle.decisions.proofs.Values.{word-word}
 use Rattle.decisions.proofs.Memories.{bytes-area, words-loaded}
@@ -36,7 +36,7 @@ module _ (half : Half) (then : Registers → Registers) (r : Registers) (m : Mem
     returns : (at : ℕ) → placeOf m (linkOf (pcxi r)) ≡ place.At at
         → ReturningCase (made (Made event.Instruction) (then (loadedAt half at r (m .bytes))) (memory (m .windows) (putWord (m .bytes) at (fcx r))))
 
-  pub returning-case : ReturningCase (returningOf half then r m)
+  pub returning-case : ReturningCase (performedOf (Return half then) r m)
   unfolding returnOf loadedOf
   returning-case = by (placeOf m (linkOf (pcxi r))) refl
     where

@@ -12,6 +12,7 @@ use Rattle.fields.specs.Psw.{PSW·V, PSW·SV, isUser0, isSupervisor}
 use Rattle.fields.specs.Icr.{ICR·CCPN}
 use Rattle.fields.proofs.RangeSets.{level-reset}
 use Rattle.bounds.proofs.Fields.{icr-word, reset-psw}
+use Rattle.operations.specs.declared.Operation.the-variants as operation
 use Rattle.operations.specs.declared.System.{System}
 use Rattle.operations.specs.declared.System.the-variants.{Enable, Disable, Mfcr, Mtcr, Trapv, Trapsv, Rstv}
 use Rattle.image.specs.declared.fetch.Instruction.{Instruction}
@@ -22,7 +23,7 @@ use Rattle.system.specs.Instructions.{enableOf, systemOf}
 use Rattle.system.specs.declared.core_registers.Named.{Named}
 use Rattle.system.specs.declared.core_registers.Named.the-variants.{Pc, Register, Nothing}
 use Rattle.decisions.specs.Valid.{Valid}
-use Rattle.decisions.specs.Heads.{isHead, systemWrites}
+use Rattle.decisions.specs.Heads.{isHead, writesHead}
 use Rattle.decisions.proofs.Setters.{valid-core}
 use Rattle.decisions.proofs.Values.{Word, either-has, either-knows}
 use Rattle.decisions.proofs.Levels.{User, not-both}
@@ -80,7 +81,7 @@ module _ {r : Registers} (w : Valid r) where
         either-has (EndsSound quiet r) (isUser0 (psw r)) (small (omega arith) (omega arith))
         (onward quiet w {i = i} o (sound-icr (sound-start w) _ (icr-word (icr r) ie (ICR·CCPN (icr r)) (w .core .each 5))))
 
-    pub system-sound : (op : System) → EndsSound (systemWrites op i r ≡ false) r (systemOf op i r)
+    pub system-sound : (op : System) → EndsSound (writesHead (operation.System op) i r ≡ false) r (systemOf op i r)
     unfolding systemOf coreAt writtenOf
     system-sound Enable = enable-sound _ true
     system-sound Disable = enable-sound _ false

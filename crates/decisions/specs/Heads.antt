@@ -9,7 +9,6 @@ use Rattle.registers.specs.Registers.{psw}
 use Rattle.registers.specs.declared.Registers.{Registers}
 use Rattle.operations.specs.declared.Operation.{Operation}
 use Rattle.operations.specs.declared.Operation.the-variants.{Nop, Integer, Move, Load, Store, Jump, Context, System}
-use Rattle.operations.specs.declared.System as system
 use Rattle.operations.specs.declared.System.the-variants.{Enable, Disable, Mfcr, Mtcr, Trapv, Trapsv, Rstv}
 use Rattle.image.specs.declared.fetch.Instruction.{Instruction}
 use Rattle.protection.specs.declared.range.Range.{Range}
@@ -23,33 +22,27 @@ isHead Pc = false
 isHead (Register k) = eqb k PCXI || eqb k FCX
 isHead Nothing = false
 
-abbrev pub systemWrites : system.System → Instruction → Registers → Bool
-systemWrites Enable i r = false
-systemWrites Disable i r = false
-systemWrites Mfcr i r = false
-systemWrites Mtcr i r = isSupervisor (psw r) && isHead (namedOf (i .imm))
-systemWrites Trapv i r = false
-systemWrites Trapsv i r = false
-systemWrites Rstv i r = false
-
-abbrev pub headsBy : Operation → Instruction → Registers → Bool
-headsBy Nop i r = false
-headsBy (Integer op) i r = false
-headsBy (Move op) i r = false
-headsBy (Load op) i r = false
-headsBy (Store op) i r = false
-headsBy (Jump op) i r = false
-headsBy (Context op) i r = false
-headsBy (System op) i r = systemWrites op i r
-
 -- the instruction writes a head directly
-abbrev pub writesHead : Instruction → Registers → Bool
-writesHead i r = headsBy (i .op) i r
+abbrev pub writesHead : Operation → Instruction → Registers → Bool
+writesHead Nop i r = false
+writesHead (Integer op) i r = false
+writesHead (Move op) i r = false
+writesHead (Load op) i r = false
+writesHead (Store op) i r = false
+writesHead (Jump op) i r = false
+writesHead (Context op) i r = false
+writesHead (System Enable) i r = false
+writesHead (System Disable) i r = false
+writesHead (System Mfcr) i r = false
+writesHead (System Mtcr) i r = isSupervisor (psw r) && isHead (namedOf (i .imm))
+writesHead (System Trapv) i r = false
+writesHead (System Trapsv) i r = false
+writesHead (System Rstv) i r = false
 
 abbrev pub headsWritten : Registers → Beginning → Bool
 headsWritten r (Interrupts b) = false
 headsWritten r (Traps t) = false
-headsWritten r (Executes i) = writesHead i r
+headsWritten r (Executes i) = writesHead (i .op) i r
 
 -- the step writes a head directly
 unfoldable pub stepHeads : List ℕ → Registers → List ℕ → List Range → Bool

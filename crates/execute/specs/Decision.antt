@@ -50,12 +50,9 @@ abbrev pub returningBy : (Registers → Registers) → Returned → Registers �
 returningBy then returned.Outside q m = made (Stopped stop.Outside) q m
 returningBy then returned.Done q m = made (Made event.Instruction) (then q) m
 
-abbrev pub returningOf : Half → (Registers → Registers) → Registers → Memory → MadeOf
-returningOf half then r m = let v = returnOf half r m in returningBy then (v .returned) (v .registers) (v .memory)
-
 -- a decision performed. This alone changes memory. The heads of the lists are changed by a save and a return; a Keep may have them set by an MTCR
 abbrev pub performedOf : Decision → Registers → Memory → MadeOf
 performedOf (Keep q) r m = made (Made event.Instruction) q m
 performedOf (Write op at v q) r m = made (Made event.Instruction) q (memory (m .windows) (storedOf op (m .bytes) at v))
 performedOf (Save e half saved-pc then) r m = savingOf e half saved-pc then r m
-performedOf (Return half then) r m = returningOf half then r m
+performedOf (Return half then) r m = let v = returnOf half r m in returningBy then (v .returned) (v .registers) (v .memory)

@@ -14,11 +14,15 @@ use lib.Seq.{getD-set-same, getD-set-other}
 use Rattle.image.specs.Lengths.{addressAfter}
 use Rattle.image.specs.Table.{entriesOf, entryAt}
 use Rattle.image.specs.Rest.{rest, bodyWalk, restIn, recordAddress, Begins}
-use Rattle.image.specs.Marks.{markEntry, markIndex, markAddress, slotOf, biasOf, shiftFrom, markOf, putMark, bodyMarks, imageMarks, start, markedStart, MarkHolds, MarksHold, Marked}
+use Rattle.image.specs.declared.fetch.Start.{Start}
+use Rattle.image.specs.Marks.{markEntry, markIndex, markAddress, slotOf, biasOf, shiftFrom, markOf, putMark, bodyMarks, imageMarks, markedStart, MarkHolds, MarksHold, Marked}
 use Rattle.image.specs.Rules.{ImageRight}
 use Rattle.image.specs.declared.table.Entry.{Entry}
 use Rattle.image.proofs.Addresses.{after-none, after-rest, after-low, after-high}
 use Rattle.image.proofs.Walks.{walk-before, walk-beyond, walk-skip}
+
+abbrev at-record : ℕ → ℕ → Start
+at-record k address = record { index = k; address = address }
 
 -- ---- a mark
 -- entry 0 says nothing
@@ -92,24 +96,24 @@ begins-there img i h e is k a l y = (h, rw is at l, rw is at y)
 
 -- ---- where a walk to pc starts, by the mark in its place s
 module _ (marks : List ℕ) (shift i : ℕ) (e : Entry) (pc s : ℕ) (is : s ≡ slotOf (biasOf e) (i + 1) shift pc) where
-  pub start-marked : markEntry (getD marks s 0) ≡ i + 1 → markAddress (getD marks s 0) ≤ pc → start (markIndex (getD marks s 0)) (markAddress (getD marks s 0)) ≡ markedStart marks shift i e pc
+  pub start-marked : markEntry (getD marks s 0) ≡ i + 1 → markAddress (getD marks s 0) ≤ pc → at-record (markIndex (getD marks s 0)) (markAddress (getD marks s 0)) ≡ markedStart marks shift i e pc
   unfolding markedStart
   start-marked f l = rw (← is, eq-eqb _ _ f, le-leb _ _ l)
 
-  pub start-past : pc < markAddress (getD marks s 0) → start 0 (e .load) ≡ markedStart marks shift i e pc
+  pub start-past : pc < markAddress (getD marks s 0) → at-record 0 (e .load) ≡ markedStart marks shift i e pc
   unfolding markedStart
   start-past l = rw (← is, lt-leb _ _ l) (by (eqb (markEntry (getD marks s 0)) (i + 1)))
     where
-      by : (b : Bool) → start 0 (e .load) ≡ cond (b && false) (start (markIndex (getD marks s 0)) (markAddress (getD marks s 0))) (start 0 (e .load))
+      by : (b : Bool) → at-record 0 (e .load) ≡ cond (b && false) (at-record (markIndex (getD marks s 0)) (markAddress (getD marks s 0))) (at-record 0 (e .load))
       by true = refl
       by false = refl
 
-  pub start-other : (markEntry (getD marks s 0) ≡ i + 1 → ⊥) → start 0 (e .load) ≡ markedStart marks shift i e pc
+  pub start-other : (markEntry (getD marks s 0) ≡ i + 1 → ⊥) → at-record 0 (e .load) ≡ markedStart marks shift i e pc
   unfolding markedStart
   start-other d = rw (← is, ne-eqb _ _ d)
 
   -- there is no such place
-  pub start-unmarked : length marks ≤ s → start 0 (e .load) ≡ markedStart marks shift i e pc
+  pub start-unmarked : length marks ≤ s → at-record 0 (e .load) ≡ markedStart marks shift i e pc
   start-unmarked l = start-other (λ x. let z = List·getD-eq-default marks 0 l in let y : markEntry 0 ≡ i + 1 = rw z at x in omega arith)
 
 -- ---- the search in one body, whose entry is e

@@ -77,14 +77,11 @@ unfoldable pub imageMarks : ℕ → List ℕ → ℕ → List ℕ → List ℕ
 imageMarks zero img shift marks = marks
 imageMarks (suc i) img shift marks = bodyMarks (entryAt img i .records) img shift i (imageMarks i img shift marks)
 
-abbrev pub start : ℕ → ℕ → Start
-start k address = record { index = k; address = address }
-
 -- where a walk to pc starts in the body of entry i, from 0: at the record that the mark in the place for pc names, if it is one of this body and not past pc; otherwise at the body's first
 unfoldable pub markedStart : List ℕ → ℕ → ℕ → Entry → ℕ → Start
 markedStart marks shift i e pc =
     let m = getD marks (slotOf (biasOf e) (i + 1) shift pc) 0 in
-    cond (eqb (markEntry m) (i + 1) && leb (markAddress m) pc) (start (markIndex m) (markAddress m)) (start 0 (e .load))
+    cond (eqb (markEntry m) (i + 1) && leb (markAddress m) pc) (record { index = markIndex m; address = markAddress m }) (record { index = 0; address = e .load })
 
 -- what a mark says is so; entry 0 says nothing
 abbrev pub MarkHolds : List ℕ → ℕ → Type 0

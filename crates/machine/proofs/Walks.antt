@@ -31,7 +31,8 @@ use Rattle.execute.specs.declared.Executed.the-variants as executed
 use Rattle.decisions.specs.Decision.{oneOf, requestsOf}
 use Rattle.decisions.proofs.Beginnings.{fetchedStep, quiet-one, quiet-requests}
 use Rattle.machine.specs.Run.{runFrom}
-use Rattle.spans.specs.Spans.{begin, Lies, SpanHolds, IndexIn, Current, PlaceIn}
+use Rattle.spans.specs.Spans.{begin, EndsAt}
+use Rattle.spans.proofs.Holds.{Lies, SpanHolds, IndexIn, PlaceIn}
 use Rattle.machine.specs.Inner.{Ready, paced, pacedAfter, Paces}
 use Rattle.machine.specs.declared.answer.Outcome.{Outcome}
 use Rattle.machine.specs.declared.answer.Outcome.the-variants as outcome
@@ -142,8 +143,8 @@ module _ (n : ℕ) (img : List ℕ) (rs : List Range) (r₀ : Registers) (m₀ :
       pub inside : k < s .records
       pub at : pc r ≡ begin img s k
 
-    pub walk-first : 0 < n → Ready img r₀ m₀ → SpanHolds img long (r₀ .core) rs s → s .from ≡ pc r₀ → 0 < s .records → Walk n 0 r₀ m₀
-    walk-first h y p e l = record { stands = stands-first h y; span = p; inside = l; at = sym e ∙ sym (after-none img (s .at) (s .from)) }
+    pub walk-first : 0 < n → Ready img r₀ m₀ → SpanHolds img long (r₀ .core) rs s × (s .from ≡ pc r₀) → Walk n 0 r₀ m₀
+    walk-first h y (p, e) = record { stands = stands-first h y; span = p; inside = p .spans .some; at = sym e ∙ sym (after-none img (s .at) (s .from)) }
 
     pub walk-is : {left k : ℕ} {r : Registers} {m : Memory} → Walk left k r m → {i : Instruction} → i ≡ instructionAt img (s .at + 8 * k) (pc r) → {v : MadeOf} → v ≡ executeOf i r rs m → v ≡ fetchedStep img r rs m
     walk-is {left} {k} {r} {m} t e h = h ∙ ap (λ (i : Instruction). executeOf i r rs m) e ∙ in-span r (t .span) k (t .inside) (t .at) m
@@ -168,7 +169,7 @@ module _ (n : ℕ) (img : List ℕ) (rs : List Range) (r₀ : Registers) (m₀ :
       pub stands : at + 8 * k ≡ s .at + 8 * index
       pub next-is : next ≡ nextAfter img (at + 8 * k) (pc r)
       pub by-index : long ≡ true → at ≡ s .at
-      pub by-record : long ≡ false → Current img s at after
+      pub by-record : long ≡ false → EndsAt img s at after
 
     pub goes-first : {next : ℕ} → (w : Walk n 0 r₀ m₀) → next ≡ nextAfter img (s .at) (s .from) → Goes n (s .at) 0 next next r₀ m₀
     goes-first {next} w e =
@@ -181,7 +182,7 @@ module _ (n : ℕ) (img : List ℕ) (rs : List Range) (r₀ : Registers) (m₀ :
           stands = refl;
           next-is = rw (z, w .at, ← first) e;
           by-index = λ _. refl;
-          by-record = λ _. record { index = 0; inside = w .inside; stands = sym z; ends = e ∙ b };
+          by-record = λ _. (0, w .inside, sym z, e ∙ b);
         }
 
     pub goes-read : {left at k next after : ℕ} {r : Registers} {m : Memory} (g : Goes left at k next after r m) {i : Instruction}
@@ -216,5 +217,5 @@ module _ (n : ℕ) (img : List ℕ) (rs : List Range) (r₀ : Registers) (m₀ :
           stands = z ∙ st;
           next-is = rw z e;
           by-index = λ t. absurd (let o = b t in omega arith);
-          by-record = λ t. record { index = k; inside = i; stands = st; ends = e ∙ rw st (next-begins img s y k (pc q) i x) };
+          by-record = λ t. (k, i, st, e ∙ rw st (next-begins img s y k (pc q) i x));
         }

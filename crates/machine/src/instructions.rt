@@ -19,11 +19,11 @@ use spans::look_ahead;
 ghost use mathlib.Core.Path.{_≡_};
 ghost use Prim.Native.Nat.{_<_};
 ghost use Rattle.memory.specs.Memory.{lent};
-ghost use Rattle.registers.specs.Registers.{registers, pc};
+ghost use Rattle.registers.specs.Registers.{registers};
 ghost use Rattle.protection.specs.Range.{rangesIn};
 ghost use Rattle.machine.specs.Inner.{Ready, pacedAfter, Paces};
 ghost use Rattle.image.specs.Marks.{Guides};
-ghost use Rattle.spans.specs.Spans.{SpanHolds};
+ghost use Rattle.spans.specs.Spans.{LiesAhead};
 
 // How some steps ended, and how many are left to make.
 pub struct Paced {
@@ -49,8 +49,8 @@ fn steady_steps(
 ) -> Paced
     requires { ⌜ Ready (now image) (registers (now d) (now a) (now core)) (lent base (now window) base2 (now window2)) ⌝ }
     requires { ⌜ Guides (now image) guide (now marks) ⌝ }
-    requires { ⌜ SpanHolds (now image) (guide .long) (now core) (rangesIn (now words)) s ⌝ }
-    requires { ⌜ (s .from ≡ pc (registers (now d) (now a) (now core))) × (0 < s .records) × (0 < n) ⌝ }
+    requires { ⌜ LiesAhead (now image) (guide .long) (now core) (rangesIn (now words)) (Ahead.Records s) ⌝ }
+    requires { ⌜ 0 < n ⌝ }
     ensures { λ r. ⌜ Paces n (now (image .entry)) (rangesIn (now (words .entry))) (registers (now (d .entry)) (now (a .entry)) (now (core .entry))) (lent base (now (window .entry)) base2 (now (window2 .entry))) r (registers (now (d .exit)) (now (a .exit)) (now (core .exit))) (lent base (now (window .exit)) base2 (now (window2 .exit))) ⌝ }
 {
     let mut at = s.at;

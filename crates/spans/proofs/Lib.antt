@@ -1,2 +1,3 @@
 -- Laws of spans.
+pub mod Holds
 pub mod Spans

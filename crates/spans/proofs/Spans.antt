@@ -2,6 +2,7 @@
 -- Assumes nothing.
 use Prim.Native.Nat.{ℕ, _+_, _-_, _*_, _%_, _^_, _≤_, _<_}
 use native.Mathlib.Omega.{arith}
+use native.Mathlib.Decide.{ℕ-discrete}
 use mathlib.Core.Path.{_≡_, refl, sym, ap, subst, _∙_}
 use mathlib.Core.Bool.{Bool, true, false, cond, _&&_}
 use mathlib.Core.List.{List}
@@ -33,26 +34,31 @@ use Rattle.protection.proofs.Searches.{lowest-says, one-of-all, below-upper, on
 use Rattle.protection.proofs.Checks.{unasked, allowed, same-check}
 use Rattle.image.specs.Lengths.{lengthOf, addressAfter}
 use Rattle.image.specs.Table.{entryAt}
+use Rattle.image.specs.Records.{ImageHolds}
 use Rattle.image.specs.Rest.{rest, bodyWalk, restOf, entryOf, recordAddress, IndexSays, Begins}
 use Rattle.image.specs.Marks.{longOnly, markEntry, markIndex, slotOf}
 use Rattle.image.specs.declared.marks.Guide.{Guide}
 use Rattle.image.specs.Rules.{ImageRight}
 use Rattle.image.specs.Fetch.{nextAfter, instructionAt, fetchOf}
+use Rattle.image.specs.declared.fetch.Instruction.{Instruction}
 use Rattle.image.specs.declared.fetch.Fetched.the-variants.{Nothing}
 use Rattle.image.specs.declared.fetch.Rest.{Rest}
 use Rattle.image.specs.declared.fetch.InBody.{InBody}
-use Rattle.image.proofs.Addresses.{after-low, after-high, after-rest, after-less, after-join, after-plus}
+use Rattle.image.proofs.Addresses.{after-none, after-low, after-high, after-rest, after-less, after-join, after-plus}
 use Rattle.image.proofs.Walks.{Walked, nowhere, somewhere, walked, walk-at, walk-before, turn-on, turn-end}
 use Rattle.image.proofs.Rests.{rest-of, entry-begins}
-use Rattle.image.proofs.Fetches.{rest-bounds, rest-long, next, fetch-next}
+use Rattle.image.proofs.Images.{image-right}
+use Rattle.image.proofs.Fetches.{rest-bounds, rest-long, next, fetch-none, fetch-next}
 use Rattle.acts.specs.declared.Control.{Control}
 use Rattle.acts.proofs.Steadiness.{Steady}
 use Rattle.execute.specs.Execute.{executeOf}
 use Rattle.decisions.specs.Beginning as beginning
-use Rattle.decisions.specs.Beginning.{checkBegins, fetchingAt}
+use Rattle.decisions.specs.Beginning.{Executes, checkBegins, fetchingAt}
 use Rattle.decisions.proofs.Beginnings.{fetchedStep, executes}
-use Rattle.spans.specs.Spans.{recordsBelow, fetchableBy, fetchableOf, foundOf, spanOf, begin, LiesInBody, Lies, SpanHolds, indexOn, IndexTells, namesIn, markedIndex, IndexIn, Current, placeAfter, PlaceIn}
+use Rattle.spans.specs.Spans.{recordsBelow, fetchableBy, fetchableOf, foundOf, spanOf, begin, IsSpan, indexOn, IndexTells, namesIn, markedIndex, EndsAt, placeAfter, LiesAhead}
 use Rattle.spans.specs.declared.Span.{Span}
+use Rattle.spans.specs.declared.Ahead.the-variants.{Records}
+use Rattle.spans.proofs.Holds.{LiesInBody, Lies, SpanHolds, IndexIn, PlaceIn}
 
 -- ---- of the records from pc on, those that protection lets be fetched
 -- of `most` records from pc on, whatever their lengths, the first n pass the fetch's check
@@ -156,31 +162,46 @@ stretches img false pc n g h =
       body = λ e. record { entry = entryOf img pc; is = refl; begins = b; few = omega (arith, g .table .entries (entryOf img pc) (b .0) .most, l); place = at };
     }
 
-pub span-of : {img core : List ℕ} {rs : List Range} (pc n : ℕ) (long : Bool) (s : Span) → ImageRight img → (long ≡ true → longOnly img ≡ true) → 0 < restOf img pc .records → Fetchable core rs pc (restOf img pc .records) n
-    → Stretches img long pc n (restOf img pc .at) s → SpanHolds img long core rs s
-unfolding fetchingAt
-span-of {img} {core} {rs} pc n long s g p h f t =
-    let b = rest-bounds img g pc h in
-    let w = f .within in
-    let at = restOf img pc .at in
-    let most = restOf img pc .records in
-    record {
-      fetched = λ j l.
-          let k : j < n = omega (arith, t .records) in
-          let c = f .passes (addressAfter j img at pc) (omega (arith, after-low j img at pc)) (omega (arith, after-high j img at pc)) (omega (arith, after-less j most img at pc (omega arith), b .below)) in
-          rw (t .from, t .at-is, c, fetch-next img g pc j (omega (arith, t .records))) refl;
-      fields = λ j l. rw (t .at-is) (next img g pc j (omega (arith, t .records)) .fields);
-      lies =
-          record {
-            most = omega (arith, b .most, t .records);
-            below = rw (t .from, t .at-is, t .records) (omega (arith, after-less n most img at pc w, b .below));
-            inside = rw (t .at-is, t .records) (omega (arith, b .inside));
-            ends = rw (t .at-is, t .records) (t .ends);
-            counted = rw (t .records) (t .counted);
-            each = λ e j l. rw (t .from, t .at-is) (rest-long img g (p e) pc j h (omega (arith, t .records)));
-            body = t .body;
-          };
-    }
+-- where a span lies
+module _ {img : List ℕ} {long : Bool} {s : Span} (y : IsSpan img long s) where
+  right : ImageRight img
+  right = image-right img (y .image)
+
+  any : 0 < restOf img (s .from) .records
+  any = omega (arith, y .some, y .most)
+
+  stretch : Stretches img long (s .from) (s .records) (restOf img (s .from) .at) s
+  stretch = subst (λ (x : Span). Stretches img long (s .from) (s .records) (restOf img (s .from) .at) x) (sym (y .is)) (stretches img long (s .from) (s .records) right any)
+
+  pub lies : Lies img long s
+  lies =
+      let b = rest-bounds img right (s .from) any in
+      let at = restOf img (s .from) .at in
+      record {
+        most = omega (arith, b .most, y .most);
+        below = rw (stretch .at-is) (omega (arith, after-less (s .records) (restOf img (s .from) .records) img at (s .from) (y .most), b .below));
+        inside = rw (stretch .at-is) (omega (arith, b .inside, y .most));
+        ends = rw (stretch .at-is) (stretch .ends);
+        counted = stretch .counted;
+        each = λ e j l. rw (stretch .at-is) (rest-long img right (y .long-only e) (s .from) j any (omega (arith, y .most)));
+        body = stretch .body;
+      }
+
+  -- what is fetched in one that passes the check
+  span-holds : {core : List ℕ} {rs : List Range} → Fetchable core rs (s .from) (restOf img (s .from) .records) (s .records) → SpanHolds img long core rs s
+  unfolding fetchingAt
+  span-holds f =
+      let b = rest-bounds img right (s .from) any in
+      let at = restOf img (s .from) .at in
+      let from = s .from in
+      record {
+        fetched = λ j l.
+            let c = f .passes (addressAfter j img at from) (omega (arith, after-low j img at from)) (omega (arith, after-high j img at from)) (omega (arith, after-less j (restOf img from .records) img at from (omega (arith, y .most)), b .below)) in
+            rw (stretch .at-is, c, fetch-next img right from j (omega (arith, y .most))) refl;
+        fields = λ j l. rw (stretch .at-is) (next img right from j (omega (arith, y .most)) .fields);
+        lies = lies;
+        spans = y;
+      }
 
 -- ---- the traps of the fetch
 module _ (img core : List ℕ) (rs : List Range) where
@@ -191,6 +212,62 @@ module _ (img core : List ℕ) (rs : List Range) where
   pub ahead-nothing : Passes ≡ checkOf core rs Execute (asAddress (getD core 0 0)) → Nothing ≡ fetchOf img (getD core 0 0) → fetchingAt img core rs (getD core 0 0) ≡ beginning.Traps CODE
   unfolding fetchingAt
   ahead-nothing h n = rw (← h, ← n)
+
+-- ---- the span ahead
+never-executes : {t : Trap} {i : Instruction} → beginning.Traps t ≡ Executes i → ⊥
+never-executes e = let z : _≡_ {A = ℕ} 0 1 = cc in omega arith
+
+module _ (img core : List ℕ) (rs : List Range) where
+  -- an instruction is fetched at PC: its fetch passes the check, and a record begins there
+  module _ {i : Instruction} (h : fetchingAt img core rs (getD core 0 0) ≡ Executes i) where
+    fetch-passes : checkOf core rs Execute (asAddress (getD core 0 0)) ≡ Passes
+    fetch-passes = by (checkOf core rs Execute (asAddress (getD core 0 0))) refl
+      where
+        by : (c : Check) → checkOf core rs Execute (asAddress (getD core 0 0)) ≡ c → c ≡ Passes
+        by Passes e = refl
+        by (Fails t) e = absurd (never-executes (sym (ahead-denied img core rs t (sym e)) ∙ h))
+
+    fetch-finds : 0 < restOf img (getD core 0 0) .records
+    fetch-finds = by (lt-or-ge 0 (restOf img (getD core 0 0) .records))
+      where
+        by : (0 < restOf img (getD core 0 0) .records) ⊎ (restOf img (getD core 0 0) .records ≤ 0) → 0 < restOf img (getD core 0 0) .records
+        by (inl l) = l
+        by (inr l) = absurd (never-executes (sym (ahead-nothing img core rs (sym fetch-passes) (fetch-none img (getD core 0 0) (omega arith))) ∙ h))
+
+  module _ (long : Bool) (s : Span) (right : ImageHolds img) (p : long ≡ true → longOnly img ≡ true) (passes : checkOf core rs Execute (asAddress (getD core 0 0)) ≡ Passes) (any : 0 < restOf img (getD core 0 0) .records)
+      (is : s ≡ spanOf img long (getD core 0 0) (fetchableOf core rs (getD core 0 0) (restOf img (getD core 0 0) .records))) where
+    reaches : Fetchable core rs (getD core 0 0) (restOf img (getD core 0 0) .records) (fetchableOf core rs (getD core 0 0) (restOf img (getD core 0 0) .records))
+    reaches = fetchable-says core rs (getD core 0 0) (restOf img (getD core 0 0) .records) any passes
+
+    pub from-pc : s .from ≡ getD core 0 0
+    from-pc = rw is (stretches img long (getD core 0 0) _ (image-right img right) any .from)
+
+    counts : s .records ≡ fetchableOf core rs (getD core 0 0) (restOf img (getD core 0 0) .records)
+    counts = rw is (stretches img long (getD core 0 0) _ (image-right img right) any .records)
+
+    pub ahead-spans : IsSpan img long s
+    ahead-spans =
+        record {
+          image = right;
+          long-only = p;
+          some = rw counts (reaches .some);
+          most = rw (counts, from-pc) (reaches .within);
+          is = rw (counts, from-pc) is;
+        }
+
+    pub ahead-holds : SpanHolds img long core rs s
+    ahead-holds = span-holds ahead-spans (rw (from-pc, counts) reaches)
+
+    -- the first of them is the instruction at PC
+    pub ahead-first : fetchingAt img core rs (getD core 0 0) ≡ Executes (instructionAt img (s .at) (getD core 0 0))
+    ahead-first =
+        let z : s .at + 8 * 0 ≡ s .at = omega arith in
+        rw (z, after-none img (s .at) (s .from), from-pc) at (ahead-holds .fetched 0 (ahead-spans .some))
+
+  -- what is known of the records that lie ahead
+  pub ahead-known : (long : Bool) (s : Span) → ImageHolds img → (long ≡ true → longOnly img ≡ true) → LiesAhead img long core rs (Records s) → SpanHolds img long core rs s × (s .from ≡ getD core 0 0)
+  ahead-known long s right p (h, is) =
+      (ahead-holds long s right p (fetch-passes h) (fetch-finds h) is, from-pc long s right p (fetch-passes h) (fetch-finds h) is)
 
 -- ---- an instruction of a span
 module _ {img : List ℕ} (r : Registers) {rs : List Range} {long : Bool} {s : Span} (h : SpanHolds img long (r .core) rs s) where
@@ -208,6 +285,7 @@ module _ {img : List ℕ} (r : Registers) {rs : List Range} {long : Bool} {s : S
             ∙ h .fetched j l;
         fields = h .fields;
         lies = h .lies;
+        spans = h .spans;
       }
 
 -- ---- the index of a record
@@ -290,7 +368,7 @@ module _ (img : List ℕ) (s : Span) where
           let z : k ≡ markIndex (getD marks p 0) - s .first = omega arith in
           rw (← is, eq-eqb _ _ e, le-leb _ _ q, lt-ltb _ _ r, ← z)
 
-  pub marked-in : (shift : ℕ) (marks : List ℕ) (pc : ℕ) → IndexIn img s pc (markedIndex img shift marks s pc)
+  marked-in : (shift : ℕ) (marks : List ℕ) (pc : ℕ) → IndexIn img s pc (markedIndex img shift marks s pc)
   unfolding markedIndex
   marked-in shift marks pc = by (getD marks (slotOf (s .bias) (s .entry) shift pc) 0)
     where
@@ -353,12 +431,10 @@ module _ (img : List ℕ) (s : Span) where
     here-up j a x h n e = record { within = (let w = h .within in omega (arith, n)); at = omega (arith, h .at, after-plus j img (s .at) (s .from)) }
 
     -- the record after another, and one by its index, as a byte of the image
-    pub place-next : (at next pc : ℕ) → Current img s at next → pc ≡ next → PlaceIn img s pc (at + 8)
-    place-next at next pc c e h =
-        let i = c .inside in
-        (c .index + 1, omega (arith, c .stands, y .ends), omega (arith, c .stands), e ∙ c .ends)
+    place-next : (at next pc : ℕ) → EndsAt img s at next → pc ≡ next → PlaceIn img s pc (at + 8)
+    place-next at next pc (k, i, stands, ends) e h = (k + 1, omega (arith, stands, y .ends), omega (arith, stands), e ∙ ends)
 
-    pub place-index : (pc j : ℕ) → IndexIn img s pc j → PlaceIn img s pc (s .at + 8 * j)
+    place-index : (pc j : ℕ) → IndexIn img s pc j → PlaceIn img s pc (s .at + 8 * j)
     place-index pc j i h = let l : j < s .records = omega (arith, y .ends) in (j, l, refl, i l)
 
     -- the record that a mark of the span's body names
@@ -369,3 +445,16 @@ module _ (img : List ℕ) (s : Span) where
         let z : s .first + k ≡ j = omega arith in
         let x = after-join (s .first) k img (entryAt img i .offset) (entryAt img i .load) in
         m .2 ∙ rw (← z, x, ← b .place, ← b .begins .2)
+
+  -- what the place tells
+  module _ (guide : Guide) (y : Lies img (guide .long) s) (marks : List ℕ) (at next pc r : ℕ) (is : r ≡ placeAfter img guide marks s at next pc) where
+    pub place-end : guide .long ≡ true → r ≡ s .end
+    place-end e = is ∙ sym (place-long guide marks at next pc e)
+
+    pub place-in : (guide .long ≡ false → EndsAt img s at next) → PlaceIn img s pc r
+    place-in c = by (guide .long) refl (ℕ-discrete pc next)
+      where
+        by : (b : Bool) → guide .long ≡ b → Dec (pc ≡ next) → PlaceIn img s pc r
+        by true e d h = absurd (omega (arith, place-end e))
+        by false e (yes f) = rw (is ∙ sym (place-follows guide marks at next pc e f)) (place-next y at next pc (c e) f)
+        by false e (no d) = rw (is ∙ sym (place-marked guide marks at next pc e d)) (place-index y pc (markedIndex img (guide .shift) marks s pc) (marked-in (guide .shift) marks pc))

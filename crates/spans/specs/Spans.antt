@@ -3,7 +3,7 @@ use Prim.Native.Nat.{ℕ, _+_, _-_, _*_, _/_, _≤_, _<_, min}
 use mathlib.Core.Path.{_≡_}
 use mathlib.Core.Bool.{Bool, true, false, cond, _&&_}
 use mathlib.Core.List.{List}
-use lib.ListN.{length, getD}
+use lib.ListN.{getD}
 use lib.Dec.{ltb, leb, eqb}
 use Rattle.memory.specs.Address.{asAddress}
 use Rattle.fields.specs.Psw.{PSW·PRS}
@@ -16,9 +16,10 @@ use Rattle.protection.specs.declared.range.Permit.{Permit}
 use Rattle.protection.specs.declared.range.Permit.the-variants.{Unnamed, By}
 use Rattle.image.specs.Lengths.{addressAfter}
 use Rattle.image.specs.Table.{entryAt}
-use Rattle.image.specs.Rest.{bodyWalk, restOf, entryOf, Begins}
-use Rattle.image.specs.Fetch.{instructionAt, fetchOf, FieldsHold}
-use Rattle.image.specs.Marks.{markEntry, markIndex, slotOf, biasOf}
+use Rattle.image.specs.Records.{ImageHolds}
+use Rattle.image.specs.Rest.{bodyWalk, restOf, entryOf}
+use Rattle.image.specs.Fetch.{instructionAt}
+use Rattle.image.specs.Marks.{longOnly, markEntry, markIndex, slotOf, biasOf}
 use Rattle.image.specs.declared.marks.Guide.{Guide}
 use Rattle.image.specs.declared.fetch.InBody.{InBody}
 use Rattle.decisions.specs.Beginning as beginning
@@ -60,35 +61,13 @@ spanOf img false pc n =
 abbrev pub begin : List ℕ → Span → ℕ → ℕ
 begin img s j = addressAfter j img (s .at) (s .from)
 
--- the span's first record in its body: of the entry with that number, from 1, the record with index `first`
-pub record LiesInBody (img : List ℕ) (s : Span) : Type 0 where
-  pub entry : ℕ
-  pub is : s .entry ≡ entry + 1
-  pub begins : Begins img (s .from) entry (s .first)
-  pub few : s .first < 0x1_0000
-  pub place : s .at ≡ entryAt img entry .offset + 8 * s .first
-
--- a span lies in the image, and below E0000000. Where it is known to have no short form, its records are counted as long ones, and begin at each fourth address; otherwise none is, and it is known where in its body it lies
-pub record Lies (img : List ℕ) (long : Bool) (s : Span) : Type 0 where
-  pub most : s .records ≤ 0x1_0000
-  pub below : begin img s (s .records) ≤ 0xE000_0000
-  pub inside : s .at + 8 * s .records ≤ length img
-  pub ends : s .end ≡ s .at + 8 * s .records
-  pub counted : s .long ≡ cond long (s .records) 0
-  pub each : long ≡ true → (j : ℕ) → j ≤ s .records → begin img s j ≡ s .from + 4 * j
-  pub body : long ≡ false → LiesInBody img s
-
--- each record of the span is fetched at its address
-pub record SpanHolds (img : List ℕ) (long : Bool) (core : List ℕ) (rs : List Range) (s : Span) : Type 0 where
-  pub fetched : (j : ℕ) → j < s .records → fetchingAt img core rs (begin img s j) ≡ Executes (instructionAt img (s .at + 8 * j) (begin img s j))
-  pub fields : (j : ℕ) → j < s .records → (q : ℕ) → FieldsHold (instructionAt img (s .at + 8 * j) q)
-  pub lies : Lies img long s
-
--- the record with index k of a span begins there
-pub record Placed (img : List ℕ) (long : Bool) (s : Span) (k here : ℕ) : Type 0 where
-  pub lies : Lies img long s
-  pub inside : k < s .records
-  pub at : here ≡ begin img s k
+-- a span of an accepted image: the first of the records from an address on
+pub record IsSpan (img : List ℕ) (long : Bool) (s : Span) : Type 0 where
+  pub image : ImageHolds img
+  pub long-only : long ≡ true → longOnly img ≡ true
+  pub some : 0 < s .records
+  pub most : s .records ≤ restOf img (s .from) .records
+  pub is : s ≡ spanOf img long (s .from) (s .records)
 
 -- the index of the record that begins at pc, among the span's records from the one with index k on: they are walked as the fetch is defined. Past the span where none begins there
 unfoldable pub indexOn : List ℕ → Span → ℕ → ℕ → ℕ
@@ -109,29 +88,18 @@ markedIndex img shift marks s pc =
     let m = getD marks (slotOf (s .bias) (s .entry) shift pc) 0 in
     cond (namesIn s m) (indexOn img s (markIndex m - s .first) pc) (s .records)
 
--- an index in the span is that of the record that begins at pc
-abbrev pub IndexIn : List ℕ → Span → ℕ → ℕ → Type 0
-IndexIn img s pc k = k < s .records → pc ≡ begin img s k
-
 -- the record at byte `at` is one of the span, and ends at `next`
-pub record Current (img : List ℕ) (s : Span) (at next : ℕ) : Type 0 where
-  pub index : ℕ
-  pub inside : index < s .records
-  pub stands : at ≡ s .at + 8 * index
-  pub ends : next ≡ begin img s (index + 1)
+abbrev pub EndsAt : List ℕ → Span → ℕ → ℕ → Type 0
+EndsAt img s at next = (k : ℕ) × (k < s .records) × (at ≡ s .at + 8 * k) × (next ≡ begin img s (k + 1))
 
 -- the byte at which the record stands that begins at pc, after the one at byte `at`, which ends at `next`: the next one, or the one found by a mark. Past the span where no mark tells, and where all are long: these are found by their index
 unfoldable pub placeAfter : List ℕ → Guide → List ℕ → Span → ℕ → ℕ → ℕ → ℕ
 placeAfter img guide marks s at next pc =
     cond (guide .long) (s .end) (cond (eqb pc next) (at + 8) (s .at + 8 * markedIndex img (guide .shift) marks s pc))
 
--- a byte in the span is that at which the record stands that begins at pc
-abbrev pub PlaceIn : List ℕ → Span → ℕ → ℕ → Type 0
-PlaceIn img s pc at = at < s .end → (k : ℕ) × (k < s .records) × (at ≡ s .at + 8 * k) × (pc ≡ begin img s k)
-
 -- what lies at PC: the trap of the fetch, or the span of the records that surely pass its check
 abbrev pub LiesAhead : List ℕ → Bool → List ℕ → List Range → Ahead → Type 0
 LiesAhead img long core rs (Traps t) = fetchingAt img core rs (getD core PC 0) ≡ beginning.Traps t
 LiesAhead img long core rs (Records s) =
     let pc = getD core PC 0 in
-    (s ≡ spanOf img long pc (fetchableOf core rs pc (restOf img pc .records))) × (s .from ≡ pc) × (0 < s .records) × SpanHolds img long core rs s
+    (fetchingAt img core rs pc ≡ Executes (instructionAt img (s .at) pc)) × (s ≡ spanOf img long pc (fetchableOf core rs pc (restOf img pc .records)))

@@ -8,13 +8,14 @@ use image::marks::mark_entry;
 use image::marks::mark_index;
 use image::marks::slot_of;
 ghost use mathlib.Core.Path.{_≡_};
-ghost use mathlib.Core.Bool.{true, false};
+ghost use mathlib.Core.Bool.{false};
+ghost use Prim.Native.Nat.{_<_};
 ghost use Rattle.image.specs.Marks.{MarksHold};
-ghost use Rattle.spans.specs.Spans.{Lies, Placed, indexOn, IndexTells, markedIndex, Current, placeAfter, PlaceIn};
+ghost use Rattle.spans.specs.Spans.{begin, IsSpan, indexOn, IndexTells, markedIndex, EndsAt, placeAfter};
 
 // The index of the record that begins at pc, walked to from the one with index k, which begins at `here`: past the span where there is none.
 fn index_on(image: &[u8], long: bool, s: Span, k: u32, here: u32, pc: u32) -> u32
-    requires { ⌜ Placed (now image) long s k here ⌝ }
+    requires { ⌜ IsSpan (now image) long s × (k < s .records) × (here ≡ begin (now image) s k) ⌝ }
     ensures { λ r. ⌜ (r ≡ indexOn (now (image .entry)) s k pc) × IndexTells (now (image .entry)) s k pc r ⌝ }
 {
     let at = s.at;
@@ -35,7 +36,7 @@ fn index_on(image: &[u8], long: bool, s: Span, k: u32, here: u32, pc: u32) -> u3
 
 // The index of the record that begins at pc, by the mark for it: past the span where no mark tells.
 fn index_marked(image: &[u8], guide: Guide, marks: &[u64], s: Span, pc: u32) -> u32
-    requires { ⌜ Lies (now image) (guide .long) s × (guide .long ≡ false) × MarksHold (now image) (now marks) ⌝ }
+    requires { ⌜ IsSpan (now image) (guide .long) s × (guide .long ≡ false) × MarksHold (now image) (now marks) ⌝ }
     ensures { λ r. ⌜ r ≡ markedIndex (now (image .entry)) (guide .shift) (now (marks .entry)) s pc ⌝ }
 {
     let slot = slot_of(s.bias, s.entry, guide.shift, pc);
@@ -63,8 +64,8 @@ pub fn place_at(
     next: u32,
     pc: u32,
 ) -> usize
-    requires { ⌜ Lies (now image) (guide .long) s × (guide .long ≡ false → Current (now image) s at next) × MarksHold (now image) (now marks) ⌝ }
-    ensures { λ r. ⌜ PlaceIn (now (image .entry)) s pc r × (guide .long ≡ true → r ≡ s .end) × (r ≡ placeAfter (now (image .entry)) guide (now (marks .entry)) s at next pc) ⌝ }
+    requires { ⌜ IsSpan (now image) (guide .long) s × (guide .long ≡ false → EndsAt (now image) s at next) × MarksHold (now image) (now marks) ⌝ }
+    ensures { λ r. ⌜ r ≡ placeAfter (now (image .entry)) guide (now (marks .entry)) s at next pc ⌝ }
 {
     if guide.long {
         return s.end;

@@ -6,9 +6,8 @@ use lib.ListN.{getD}
 use Rattle.protection.specs.Range.{rangesIn}
 use Rattle.spans.specs.Spans.{spanOf}
 use Rattle.image.specs.declared.fetch.InBody.{InBody}
-use Rattle.image.proofs.Images.{image-right}
 use Rattle.image.proofs.Fetches.{fetch-none}
-use Rattle.spans.proofs.Spans.{fetchable-says, stretches, span-of, ahead-denied, ahead-nothing}
+use Rattle.spans.proofs.Spans.{fetchable-says, ahead-denied, ahead-nothing, ahead-first}
 use borrow.Author.Needs.{needs}
 use Rattle.spans.proofs.look_ahead.Statement.{statement}
 use Rattle.spans.proofs.look_ahead.Tie as tie
@@ -52,17 +51,14 @@ returns-3 : tie.Need-returns-3
 returns-3 c =
     let a = c .before .before .before .before .before .before .before .before .before .before .before .before .before .args in
     let p = c .before .before .before .before .before .before .before .before .before .before .before .before .before .pre in
-    let g = image-right (a .image .now) (p .0) in
     let h = rw (c .before .before .before .before .before .before .before .before .before .as-address .ensures) at (c .before .before .before .before .before .before .before .before .check-access .ensures) in
     let t = c .before .before .before .before .before .before .enum-told .given .1 in
     let e = c .before .before .before .before .before .rest-guided .ensures in
     let n : 0 < c .before .before .before .before .before .rest-guided .result .rest .records = omega (arith, c .before .before .if1 .left) in
     let m = subst (λ (x : InBody). 0 < x .rest .records) e n in
-    let f = fetchable-says (a .core .now) (rangesIn (a .words .now)) _ _ m (sym h ∙ t) in
     let l = rw e at (c .before .fetchable .ensures) in
     let s = c .span-of .ensures ∙ ap (spanOf (a .image .now) (a .guide .long) (getD (a .core .now) 0 0)) l in
-    let y = stretches (a .image .now) (a .guide .long) _ _ g m in
-    (s, rw s (y .from), rw s (rw (y .records) (f .some)), rw s (span-of _ _ (a .guide .long) _ g (p .1 .long-only) m f y))
+    (ahead-first (a .image .now) (a .core .now) (rangesIn (a .words .now)) (a .guide .long) _ (p .0) (p .1 .long-only) (sym h ∙ t) m s, s)
 
 pub look-ahead-spec : {M : Type 1} → statement M
 look-ahead-spec =

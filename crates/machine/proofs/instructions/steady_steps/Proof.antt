@@ -8,6 +8,8 @@ use lib.ListN.{length}
 use Rattle.memory.specs.Memory.{lent}
 use Rattle.registers.specs.Registers.{registers}
 use Rattle.protection.specs.Range.{rangesIn}
+use Rattle.spans.proofs.Spans.{ahead-known, place-end, place-in}
+use Rattle.machine.proofs.Turns.{image-holds}
 use Rattle.machine.proofs.Walks.{Goes, walk-first, walk-is, walk-next, goes-first, goes-read, goes-index, goes-place, ends-stopped, ends-made}
 use Rattle.machine.proofs.instructions.steady_steps.Statement.{statement}
 use Rattle.machine.proofs.instructions.steady_steps.Tie as tie
@@ -21,12 +23,16 @@ abbrev μ-loop : tie.MeasureT-loop
 μ-loop base window₀ base2 window2₀ image guide marks d₀ a₀ core₀ words s n at₀ left₀ k₀ next₀ after₀ window window2 d a core at left k next after = left
 
 next-after-requires : tie.Need-next-after-requires Inv-loop μ-loop
-next-after-requires c κs = omega (arith, c .before .before .before .before .pre .1 .1 .0 .lies .inside, c .before .before .before .before .pre .1 .1 .1 .1)
+next-after-requires c κs =
+    let p = c .before .before .before .before .pre in
+    let g = c .before .before .before .before .args in
+    let s = ahead-known (g .image .now) (g .core .now) (rangesIn (g .words .now)) (g .guide .long) (g .s) (image-holds _ _ _ (p .0 .accepted)) (p .1 .0 .long-only) (p .1 .1 .0) .0 in
+    omega (arith, s .lies .inside, s .spans .some)
 
 loop-holds : tie.Need-loop-holds Inv-loop μ-loop
 loop-holds c =
     let p = c .before .before .before .before .before .pre in
-    ((refl, refl), goes-first _ _ _ _ _ _ _ (walk-first _ _ _ _ _ _ _ (p .1 .1 .1 .2) (p .0) (p .1 .1 .0) (p .1 .1 .1 .0) (p .1 .1 .1 .1)) (c .next-after .ensures))
+    ((refl, refl), goes-first _ _ _ _ _ _ _ (walk-first _ _ _ _ _ _ _ (p .1 .1 .1) (p .0) (ahead-known _ _ _ _ _ (image-holds _ _ _ (p .0 .accepted)) (p .1 .0 .long-only) (p .1 .1 .0))) (c .next-after .ensures))
 
 wrapping-add-u32-requires : tie.Need-wrapping-add-u32-requires Inv-loop μ-loop
 wrapping-add-u32-requires c κs = search needs
@@ -119,7 +125,7 @@ loop-again c =
     )
 
 place-at-requires : tie.Need-place-at-requires Inv-loop μ-loop
-place-at-requires c κs = let g = c .before .before .before .before .before .before .before .before .before .before .before .before .before .before .before .before .before .before .before .before .before .before .loop .inv .1 in (g .walk .span .lies, g .by-record, c .before .before .before .before .before .before .before .before .before .before .before .before .before .before .before .before .before .before .before .before .before .before .before .before .before .before .before .before .pre .1 .0 .marks-hold)
+place-at-requires c κs = let g = c .before .before .before .before .before .before .before .before .before .before .before .before .before .before .before .before .before .before .before .before .before .before .loop .inv .1 in (g .walk .span .spans, g .by-record, c .before .before .before .before .before .before .before .before .before .before .before .before .before .before .before .before .before .before .before .before .before .before .before .before .before .before .before .before .pre .1 .0 .marks-hold)
 
 same-length-7 : tie.Need-same-length-7 Inv-loop μ-loop
 same-length-7 c = c .before .before .before .before .before .before .before .before .before .before .before .before .before .before .before .before .before .before .execute-instruction .kept .1 .0 ∙ c .before .before .before .before .before .before .before .before .before .before .before .before .before .before .before .before .before .before .before .before .before .before .before .before .before .loop .inv .0 .0
@@ -145,7 +151,7 @@ loop-again-2 c =
     let i = goes-read _ _ _ _ _ _ _ g (c .before .before .before .before .before .before .before .before .before .before .before .before .before .before .before .before .before .before .before .before .before .before .before .before .before .read-record .ensures) in
     let v = walk-is _ _ _ _ _ _ _ (g .walk) i (c .before .before .before .before .before .before .before .before .before .before .before .before .before .before .before .before .before .before .before .execute-instruction .ensures .0) in (
       (c .before .before .before .before .before .before .before .before .before .before .before .before .before .before .before .before .before .before .before .execute-instruction .kept .1 .0 ∙ c .before .before .before .before .before .before .before .before .before .before .before .before .before .before .before .before .before .before .before .before .before .before .before .before .before .before .loop .inv .0 .0, c .before .before .before .before .before .before .before .before .before .before .before .before .before .before .before .before .before .before .before .execute-instruction .kept .1 .1 .1 .0 ∙ c .before .before .before .before .before .before .before .before .before .before .before .before .before .before .before .before .before .before .before .before .before .before .before .before .before .before .loop .inv .0 .1),
-      goes-place _ _ _ _ _ _ _ (g .walk .span .lies) (c .before .before .before .place-at .ensures .1) (c .before .if4 .left) (c .before .before .before .place-at .ensures .0)
+      goes-place _ _ _ _ _ _ _ (g .walk .span .lies) (place-end (c .args .image .now) (c .args .s) (c .args .guide) (g .walk .span .lies) (c .args .marks .now) _ _ _ _ (c .before .before .before .place-at .ensures)) (c .before .if4 .left) (place-in (c .args .image .now) (c .args .s) (c .args .guide) (g .walk .span .lies) (c .args .marks .now) _ _ _ _ (c .before .before .before .place-at .ensures) (g .by-record))
           (λ k l x. walk-next _ _ _ _ _ _ _ (g .walk) v (c .before .before .before .before .before .before .before .before .before .before .before .before .before .before .before .before .before .before .before .execute-instruction .result) refl (sym (c .before .before .before .before .before .before .before .before .before .before .steady .ensures) ∙ not-false _ (c .before .before .before .before .before .before .before .before .before .if2 .left)) (c .before .before .before .before .before .before .before .before .before .before .before .before .before .before .before .before .before .before .before .execute-instruction .ensures .1) (omega (arith, c .before .before .before .before .before .before .before .before .before .before .before .if1 .left)) k x l)
           (c .next-after2 .ensures),
     )

@@ -1,26 +1,21 @@
 -- `spans::index::place_at` meets its contract. Assumes nothing.
 use native.Mathlib.Omega.{arith}
-use mathlib.Core.Path.{refl, sym, _∙_}
-use Rattle.words.proofs.Truth.{never}
-use Rattle.spans.proofs.Spans.{marked-in, place-long, place-follows, place-marked, place-next, place-index}
+use Rattle.spans.proofs.Spans.{lies, place-long, place-follows, place-marked}
 use borrow.Author.Needs.{needs}
 use Rattle.spans.proofs.index.place_at.Statement.{statement}
 use Rattle.spans.proofs.index.place_at.Tie as tie
 
 returns : tie.Need-returns
-returns c = (λ h. absurd (omega arith), λ e. refl, place-long _ _ _ _ _ _ _ (c .if1 .taken))
+returns c = place-long _ _ _ _ _ _ _ (c .if1 .taken)
 
 add-result : tie.Need-add-result
 add-result c =
     let p = c .before .before .before .before .pre in
     let r = p .1 (c .before .if1 .left) in
-    omega (arith, r .inside, r .stands, p .0 .inside, c .before .before .before .before .good .0 .0)
+    omega (arith, r .1, r .2, lies (p .0) .inside, c .before .before .before .before .good .0 .0)
 
 returns-2 : tie.Need-returns-2
-returns-2 c =
-    let p = c .before .before .before .before .pre in
-    let a = c .before .before .before .before .args in
-    (place-next (a .image .now) (a .s) (p .0) (a .at) (a .next) _ (p .1 (c .before .if1 .left)) (c .if2 .taken), λ e. absurd (never (sym e ∙ c .before .if1 .left)), place-follows _ _ _ _ _ _ _ (c .before .if1 .left) (c .if2 .taken))
+returns-2 c = place-follows _ _ _ _ _ _ _ (c .before .if1 .left) (c .if2 .taken)
 
 index-marked-requires : tie.Need-index-marked-requires
 index-marked-requires c κs = search needs
@@ -35,11 +30,7 @@ add-result-2 : tie.Need-add-result-2
 add-result-2 c = search needs
 
 returns-3 : tie.Need-returns-3
-returns-3 c =
-    let p = c .before .before .before .before .before .before .pre in
-    let a = c .before .before .before .before .before .before .args in
-    let i = c .before .index-marked .ensures in
-    (rw i (place-index (a .image .now) (a .s) (p .0) _ _ (marked-in _ _ _ _ _)), λ e. absurd (never (sym e ∙ c .before .before .before .if1 .left)), rw i (place-marked _ _ _ _ _ _ _ (c .before .before .before .if1 .left) (c .before .before .if2 .left)))
+returns-3 c = rw (c .before .index-marked .ensures) (place-marked _ _ _ _ _ _ _ (c .before .before .before .if1 .left) (c .before .before .if2 .left))
 
 pub place-at-spec : {M : Type 1} → statement M
 place-at-spec =
