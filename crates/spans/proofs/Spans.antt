@@ -245,6 +245,9 @@ module _ (img core : List ℕ) (rs : List Range) where
     counts : s .records ≡ fetchableOf core rs (getD core 0 0) (restOf img (getD core 0 0) .records)
     counts = rw is (stretches img long (getD core 0 0) _ (image-right img right) any .records)
 
+    same : spanOf img long (getD core 0 0) (fetchableOf core rs (getD core 0 0) (restOf img (getD core 0 0) .records)) ≡ spanOf img long (s .from) (s .records)
+    same = rw (from-pc, counts)
+
     pub ahead-spans : IsSpan img long s
     ahead-spans =
         record {
@@ -252,7 +255,7 @@ module _ (img core : List ℕ) (rs : List Range) where
           long-only = p;
           some = rw counts (reaches .some);
           most = rw (counts, from-pc) (reaches .within);
-          is = rw (counts, from-pc) is;
+          is = is ∙ same;
         }
 
     pub ahead-holds : SpanHolds img long core rs s
@@ -455,6 +458,6 @@ module _ (img : List ℕ) (s : Span) where
     place-in c = by (guide .long) refl (ℕ-discrete pc next)
       where
         by : (b : Bool) → guide .long ≡ b → Dec (pc ≡ next) → PlaceIn img s pc r
-        by true e d h = absurd (omega (arith, place-end e))
+        by true e d = λ h. absurd (omega (arith, place-end e))
         by false e (yes f) = rw (is ∙ sym (place-follows guide marks at next pc e f)) (place-next y at next pc (c e) f)
         by false e (no d) = rw (is ∙ sym (place-marked guide marks at next pc e d)) (place-index y pc (markedIndex img (guide .shift) marks s pc) (marked-in (guide .shift) marks pc))

@@ -27,7 +27,7 @@ mul-result : tie.Need-mul-result
 mul-result c = search needs
 
 add-result-2 : tie.Need-add-result-2
-add-result-2 c = search needs
+add-result-2 c = omega (arith, lies (c .before .before .before .before .before .before .pre .0) .inside, c .before .before .before .before .before .before .good .0 .0)
 
 returns-3 : tie.Need-returns-3
 returns-3 c = rw (c .before .index-marked .ensures) (place-marked _ _ _ _ _ _ _ (c .before .before .before .if1 .left) (c .before .before .if2 .left))
