@@ -151,7 +151,7 @@ loop-again-2 c =
     let i = goes-read _ _ _ _ _ _ _ g (c .before .before .before .before .before .before .before .before .before .before .before .before .before .before .before .before .before .before .before .before .before .before .before .before .before .read-record .ensures) in
     let v = walk-is _ _ _ _ _ _ _ (g .walk) i (c .before .before .before .before .before .before .before .before .before .before .before .before .before .before .before .before .before .before .before .execute-instruction .ensures .0) in (
       (c .before .before .before .before .before .before .before .before .before .before .before .before .before .before .before .before .before .before .before .execute-instruction .kept .1 .0 ∙ c .before .before .before .before .before .before .before .before .before .before .before .before .before .before .before .before .before .before .before .before .before .before .before .before .before .before .loop .inv .0 .0, c .before .before .before .before .before .before .before .before .before .before .before .before .before .before .before .before .before .before .before .execute-instruction .kept .1 .1 .1 .0 ∙ c .before .before .before .before .before .before .before .before .before .before .before .before .before .before .before .before .before .before .before .before .before .before .before .before .before .before .loop .inv .0 .1),
-      goes-place _ _ _ _ _ _ _ (g .walk .span .lies) (place-end (c .args .image .now) (c .args .s) (c .args .guide) (g .walk .span .lies) (c .args .marks .now) _ _ _ _ (c .before .before .before .place-at .ensures)) (c .before .if4 .left) (place-in (c .args .image .now) (c .args .s) (c .args .guide) (g .walk .span .lies) (c .args .marks .now) _ _ _ _ (c .before .before .before .place-at .ensures) (g .by-record))
+      goes-place _ _ _ _ _ _ _ (g .walk .span .lies) (place-end (c .before .before .before .before .before .before .before .before .before .before .before .before .before .before .before .before .before .before .before .before .before .before .before .before .before .before .before .before .before .before .before .before .args .image .now) (c .before .before .before .before .before .before .before .before .before .before .before .before .before .before .before .before .before .before .before .before .before .before .before .before .before .before .before .before .before .before .before .before .args .s) (c .before .before .before .before .before .before .before .before .before .before .before .before .before .before .before .before .before .before .before .before .before .before .before .before .before .before .before .before .before .before .before .before .args .guide) (g .walk .span .lies) (c .before .before .before .before .before .before .before .before .before .before .before .before .before .before .before .before .before .before .before .before .before .before .before .before .before .before .before .before .before .before .before .before .args .marks .now) _ _ _ _ (c .before .before .before .place-at .ensures)) (c .before .if4 .left) (place-in (c .before .before .before .before .before .before .before .before .before .before .before .before .before .before .before .before .before .before .before .before .before .before .before .before .before .before .before .before .before .before .before .before .args .image .now) (c .before .before .before .before .before .before .before .before .before .before .before .before .before .before .before .before .before .before .before .before .before .before .before .before .before .before .before .before .before .before .before .before .args .s) (c .before .before .before .before .before .before .before .before .before .before .before .before .before .before .before .before .before .before .before .before .before .before .before .before .before .before .before .before .before .before .before .before .args .guide) (g .walk .span .lies) (c .before .before .before .before .before .before .before .before .before .before .before .before .before .before .before .before .before .before .before .before .before .before .before .before .before .before .before .before .before .before .before .before .args .marks .now) _ _ _ _ (c .before .before .before .place-at .ensures) (g .by-record))
           (λ k l x. walk-next _ _ _ _ _ _ _ (g .walk) v (c .before .before .before .before .before .before .before .before .before .before .before .before .before .before .before .before .before .before .before .execute-instruction .result) refl (sym (c .before .before .before .before .before .before .before .before .before .before .steady .ensures) ∙ not-false _ (c .before .before .before .before .before .before .before .before .before .if2 .left)) (c .before .before .before .before .before .before .before .before .before .before .before .before .before .before .before .before .before .before .before .execute-instruction .ensures .1) (omega (arith, c .before .before .before .before .before .before .before .before .before .before .before .if1 .left)) k x l)
           (c .next-after2 .ensures),
     )
