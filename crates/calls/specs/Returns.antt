@@ -2,7 +2,6 @@
 use Prim.Native.Nat.{ℕ}
 use mathlib.Core.Bool.{Bool, not, cond}
 use lib.Dec.{eqb}
-use Rattle.fields.specs.Psw.{PSW·PRS}
 use Rattle.fields.specs.Pcxi.{PCXI·PCPN, PCXI·PIE, PCXI·UL}
 use Rattle.fields.specs.Depth.{underflowsDown, nested}
 use Rattle.fields.specs.Icr.{icrOf}

@@ -1,7 +1,7 @@
 -- A return as the code makes it: the area read through the lookup is the one that PCXI names.
 -- Assumes nothing.
 use Prim.Native.Nat.{ℕ}
-use mathlib.Core.Path.{_≡_, sym, ap, ap₂, _∙_}
+use mathlib.Core.Path.{_≡_, ap, ap₂, _∙_}
 use mathlib.Core.List.{List, _++_}
 use lib.ListN.{length}
 use Rattle.memory.specs.Memory.{windows, Memory, memory, lent}

@@ -1,12 +1,12 @@
 -- A save as the code makes it: what is foreseen, then the area taken, is the save of the definition.
 -- Assumes nothing.
-use Prim.Native.Nat.{ℕ, _%_}
+use Prim.Native.Nat.{ℕ}
 use native.Mathlib.Omega.{arith}
-use mathlib.Core.Path.{_≡_, refl, sym, ap, ap₂, _∙_}
-use mathlib.Core.Bool.{Bool, true, false, cond}
+use mathlib.Core.Path.{_≡_, refl, ap, ap₂, _∙_}
+use mathlib.Core.Bool.{true, false}
 use mathlib.Core.List.{List, _++_}
 use lib.ListN.{length, getD}
-use Rattle.memory.specs.Memory.{Windows, windows, Memory, memory, lent}
+use Rattle.memory.specs.Memory.{windows, Memory, memory, lent}
 use Rattle.memory.specs.Word.{wordAt, putWords}
 use Rattle.fields.specs.Link.{linkOf}
 use Rattle.areas.specs.Place.{placeOf, spotOf, Lies, LiesIn, offset}
@@ -19,7 +19,7 @@ use Rattle.areas.proofs.Places.{spot-at-place}
 use Rattle.areas.proofs.Parts.{first-word-placed}
 use Rattle.registers.specs.Core.{FCX}
 use Rattle.events.specs.declared.event.Stop.{Stop}
-use Rattle.contexts.specs.Save.{roomAt, roomOf, Taken, taken, headsOf, takeOf, foreseenOf, stopsOf, Saving, saving, taking, savedBy, saveAtOf, saveOf}
+use Rattle.contexts.specs.Save.{roomOf, Taken, taken, headsOf, takeOf, foreseenOf, stopsOf, saving, taking, savedBy, saveAtOf, saveOf}
 use Rattle.contexts.specs.declared.context.Half.{Half}
 use Rattle.contexts.specs.declared.save.Room.the-variants as room
 use Rattle.contexts.specs.declared.save.Saved.{Saved}

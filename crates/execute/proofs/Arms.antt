@@ -4,7 +4,6 @@ use Prim.Native.Nat.{ℕ}
 use mathlib.Core.Path.{_≡_, refl, sym, ap, subst, _∙_}
 use mathlib.Core.Bool.{Bool, true, false}
 use mathlib.Core.List.{List}
-use Rattle.words.proofs.Truth.{never}
 use Rattle.fields.specs.Link.{linkOf}
 use Rattle.fields.specs.Psw.{PSW·PRS}
 use Rattle.fields.proofs.RangeSets.{prs-flagged, prs-overflowed}

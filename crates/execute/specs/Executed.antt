@@ -5,8 +5,6 @@ use Rattle.events.specs.declared.event.Event.the-variants as event
 use Rattle.events.specs.declared.event.Ending.{Ending}
 use Rattle.events.specs.declared.event.Ending.the-variants.{Made, Stopped}
 use Rattle.acts.specs.Acts.{controlOf, isSame}
-use Rattle.acts.specs.declared.How.{How}
-use Rattle.acts.specs.declared.How.the-variants as how
 use Rattle.execute.specs.declared.Executed.{Executed}
 use Rattle.execute.specs.declared.Executed.the-variants.{Steady, Ended}
 

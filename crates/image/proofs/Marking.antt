@@ -1,6 +1,6 @@
 -- Marks that hold, and the walk from one.
 -- Assumes nothing.
-use Prim.Native.Nat.{ℕ, zero, suc, _+_, _-_, _*_, _/_, _%_, _^_, _≤_, _<_}
+use Prim.Native.Nat.{ℕ, suc, _+_, _-_, _*_, _/_, _%_, _^_, _≤_, _<_}
 use native.Mathlib.Decide.{ℕ-discrete}
 use native.Mathlib.Numerals.{add-one}
 use native.Mathlib.Omega.{arith}
@@ -13,7 +13,7 @@ use borrow.Author.Tests.{lt-ltb, le-ltb, le-leb, lt-leb, eq-eqb, ne-eqb}
 use lib.Seq.{getD-set-same, getD-set-other}
 use Rattle.image.specs.Lengths.{addressAfter}
 use Rattle.image.specs.Table.{entriesOf, entryAt}
-use Rattle.image.specs.Rest.{rest, bodyWalk, restIn, recordAddress, Begins}
+use Rattle.image.specs.Rest.{rest, bodyWalk, restIn, Begins}
 use Rattle.image.specs.declared.fetch.Start.{Start}
 use Rattle.image.specs.Marks.{markEntry, markIndex, markAddress, slotOf, biasOf, shiftFrom, markOf, putMark, bodyMarks, imageMarks, markedStart, MarkHolds, MarksHold, Marked}
 use Rattle.image.specs.Rules.{ImageRight}

@@ -10,9 +10,8 @@ use mathlib.Core.Bool.{Bool, true, false, cond}
 use mathlib.Core.List.{List}
 use borrow.Author.Tests.{eqb-true, eqb-false, eq-eqb, ne-eqb}
 use lib.Dec.{eqb}
-use Rattle.image.specs.Lengths.{addressAfter}
 use Rattle.image.specs.Table.{entriesOf, entryAt, rangeEnd}
-use Rattle.image.specs.Rest.{rest, bodyWalk, restIn, restFrom, restOf, entryFrom, entryOf, recordAddress, Begins}
+use Rattle.image.specs.Rest.{rest, restIn, restFrom, restOf, entryFrom, entryOf, recordAddress, Begins}
 use Rattle.image.specs.Rules.{TableRight}
 use Rattle.image.specs.declared.fetch.Rest.{Rest}
 use Rattle.image.proofs.Addresses.{after-low, after-less, after-same}

@@ -3,8 +3,7 @@
 use Prim.Native.Nat.{ℕ, zero, suc, _+_, _-_, _*_, _≤_, _<_}
 use native.Mathlib.Decide.{ℕ-discrete}
 use native.Mathlib.Omega.{arith}
-use mathlib.Core.Path.{_≡_, refl, sym, subst, _∙_}
-use mathlib.Core.Bool.{true, false, cond}
+use mathlib.Core.Path.{_≡_, refl, sym, _∙_}
 use mathlib.Core.List.{List}
 use borrow.Author.Tests.{eq-eqb, ne-eqb}
 use borrow.Author.Count.{below-more}
@@ -12,7 +11,7 @@ use lib.ListN.{getD}
 use Rattle.image.specs.Lengths.{lengthAt, addressAfter}
 use Rattle.image.specs.Rest.{rest, bodyWalk}
 use Rattle.image.specs.declared.fetch.Rest.{Rest}
-use Rattle.image.proofs.Addresses.{length-says, after-none, after-more, after-low, after-less}
+use Rattle.image.proofs.Addresses.{length-says, after-none, after-more}
 
 -- ---- the cases of a turn
 pub walk-end : (img : List ℕ) (at from pc : ℕ) → bodyWalk 0 img at from pc ≡ rest 0 0

@@ -7,7 +7,7 @@ use native.Mathlib.Nat.{suc-add, zero-add, add-assoc}
 use native.Mathlib.Omega.{arith}
 use lib.ListN.{length, getD, set, take, drop, length-set, length-append, List·getD-append}
 use lib.Seq.{set-append-left, getD-append-add, take-append-seam, drop-append-seam}
-use Rattle.memory.specs.Memory.{Windows, windows, Memory, Lossless, firstLength, secondLength}
+use Rattle.memory.specs.Memory.{windows, Memory, Lossless, firstLength, secondLength}
 use Rattle.memory.specs.declared.address.Address.{Address}
 use Rattle.memory.specs.Word.{halfAt, wordAt, putByte, putHalf, putWord, putWords}
 use Rattle.memory.proofs.Words.{putWords-length}

@@ -7,7 +7,6 @@ use image::fetch::rest_at;
 use image::fetch::rest_long;
 use interrupts::best_source;
 use interrupts::taken;
-use memory::address::Address;
 use memory::address::as_address;
 use operations::Access;
 use protection::access::Check;

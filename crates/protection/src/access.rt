@@ -49,12 +49,8 @@ pub fn permit_for(core: &[u32; CORE], words: &[u32; 96], right: Right, address: 
     if !fields::syscon::protection(core[SYSCON]) {
         return Permit::Unnamed;
     }
-    search(
-        words,
-        fields::psw::protection_set(core[PSW]),
-        right,
-        address,
-    )
+    let set = fields::psw::protection_set(core[PSW]);
+    search(words, set, right, address)
 }
 
 // Checks the access to an address.

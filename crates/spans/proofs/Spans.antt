@@ -9,7 +9,7 @@ use mathlib.Core.List.{List}
 use mathlib.Core.Logic.{_⊎_, inl, inr}
 use lib.ListN.{length, getD, List·getD-eq-default}
 use lib.Dec.{ltb, leb, eqb}
-use borrow.Author.Tests.{ltb-true, leb-true, lt-ltb, le-ltb, le-leb, lt-leb, eq-eqb, ne-eqb}
+use borrow.Author.Tests.{ltb-true, lt-ltb, le-ltb, le-leb, lt-leb, eq-eqb, ne-eqb}
 use Rattle.words.proofs.Integers.{lt-or-ge}
 use Rattle.words.proofs.Truth.{never, both-true}
 use Rattle.fields.specs.Psw.{PSW·PRS}
@@ -35,7 +35,7 @@ use Rattle.protection.proofs.Checks.{unasked, allowed, same-check}
 use Rattle.image.specs.Lengths.{lengthOf, addressAfter}
 use Rattle.image.specs.Table.{entryAt}
 use Rattle.image.specs.Records.{ImageHolds}
-use Rattle.image.specs.Rest.{rest, bodyWalk, restOf, entryOf, recordAddress, IndexSays, Begins}
+use Rattle.image.specs.Rest.{rest, bodyWalk, restOf, entryOf, IndexSays, Begins}
 use Rattle.image.specs.Marks.{longOnly, markEntry, markIndex, slotOf}
 use Rattle.image.specs.declared.marks.Guide.{Guide}
 use Rattle.image.specs.Rules.{ImageRight}
@@ -55,7 +55,7 @@ use Rattle.execute.specs.Execute.{executeOf}
 use Rattle.decisions.specs.Beginning as beginning
 use Rattle.decisions.specs.Beginning.{Executes, checkBegins, fetchingAt}
 use Rattle.decisions.proofs.Beginnings.{fetchedStep, executes}
-use Rattle.spans.specs.Spans.{recordsBelow, fetchableBy, fetchableOf, foundOf, spanOf, begin, IsSpan, indexOn, IndexTells, namesIn, markedIndex, EndsAt, placeAfter, LiesAhead}
+use Rattle.spans.specs.Spans.{fetchableBy, fetchableOf, foundOf, spanOf, begin, IsSpan, indexOn, IndexTells, namesIn, markedIndex, EndsAt, placeAfter, LiesAhead}
 use Rattle.spans.specs.declared.Span.{Span}
 use Rattle.spans.specs.declared.Ahead.the-variants.{Records}
 use Rattle.spans.proofs.Holds.{LiesInBody, Lies, SpanHolds, IndexIn, PlaceIn}

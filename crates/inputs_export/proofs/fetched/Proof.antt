@@ -1,6 +1,6 @@
 -- `inputs_export::fetched` meets its contract. Assumes nothing.
 use native.Mathlib.Omega.{arith}
-use mathlib.Core.Path.{refl, ap}
+use mathlib.Core.Path.{refl}
 use Rattle.image.specs.Fetch.{Bounded, FetchSays}
 use Rattle.image.specs.declared.fetch.Fetched.the-variants.{Found, Nothing}
 use Rattle.inputs_export.proofs.Covers.{covers-few, distance-is}

@@ -1,5 +1,4 @@
 -- `operations::operation_number` meets its contract. Assumes nothing.
-use borrow.Author.Needs.{needs}
 use native.Mathlib.Omega.{arith}
 use Rattle.operations.proofs.Forms.{byte-number}
 use Rattle.operations.proofs.operation_number.Statement.{statement}

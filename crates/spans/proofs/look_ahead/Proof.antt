@@ -1,7 +1,7 @@
 -- `spans::look_ahead` meets its contract. Assumes nothing.
 use native.Mathlib.Omega.{arith}
 use Prim.Native.Nat.{_<_}
-use mathlib.Core.Path.{refl, sym, ap, subst, _∙_}
+use mathlib.Core.Path.{sym, ap, subst, _∙_}
 use lib.ListN.{getD}
 use Rattle.protection.specs.Range.{rangesIn}
 use Rattle.spans.specs.Spans.{spanOf}

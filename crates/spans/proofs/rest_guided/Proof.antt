@@ -1,6 +1,4 @@
 -- `spans::rest_guided` meets its contract. Assumes nothing.
-use mathlib.Core.Path.{sym, _∙_}
-use Rattle.words.proofs.Truth.{never}
 use borrow.Author.Needs.{needs}
 use Rattle.spans.proofs.rest_guided.Statement.{statement}
 use Rattle.spans.proofs.rest_guided.Tie as tie

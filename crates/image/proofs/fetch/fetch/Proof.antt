@@ -1,7 +1,7 @@
 -- `image::fetch::fetch` meets its contract. Assumes nothing.
 use native.Mathlib.Omega.{arith}
 use Prim.Native.Nat.{_<_}
-use mathlib.Core.Path.{refl, ap, sym, subst, _∙_}
+use mathlib.Core.Path.{ap, sym, subst, _∙_}
 use Rattle.image.specs.Rest.{restOf}
 use Rattle.image.specs.Fetch.{FetchSays}
 use Rattle.image.specs.declared.fetch.Fetched.the-variants.{Found}

@@ -3,10 +3,9 @@ use borrow.Author.Needs.{needs}
 use native.Mathlib.Omega.{arith}
 use Prim.Native.Nat.{_+_, _-_, _*_, _≤_}
 use mathlib.Core.Path.{_≡_, sym, _∙_}
-use lib.ListN.{getD}
 use Rattle.image.specs.Lengths.{addressAfter}
 use Rattle.image.specs.Rest.{bodyWalk}
-use Rattle.image.proofs.Addresses.{length-says, after-none, after-less, after-plus}
+use Rattle.image.proofs.Addresses.{after-none, after-less, after-plus}
 use Rattle.image.proofs.Walks.{walk-before, walk-start, turn-found, turn-on, turn-end}
 use Rattle.image.proofs.fetch.walk_body.Statement.{statement}
 use Rattle.image.proofs.fetch.walk_body.Tie as tie

@@ -1,5 +1,4 @@
 -- `image::records::word_fits` meets its contract. Assumes nothing.
-use mathlib.Core.Path.{sym}
 use Rattle.image.proofs.Tests.{word-number, all-registers, with-immediate}
 use borrow.Author.Needs.{needs}
 use Rattle.image.proofs.records.word_fits.Statement.{statement}

@@ -1,6 +1,5 @@
 -- `image::table::entry_fits` meets its contract. Assumes nothing.
 use borrow.Author.Needs.{needs}
-use native.Mathlib.Omega.{arith}
 use borrow.Author.Tests.{le-leb, lt-leb, eq-eqb, ne-eqb}
 use Rattle.image.specs.Table.{entryFits}
 use Rattle.image.proofs.table.entry_fits.Statement.{statement}
