@@ -8,13 +8,13 @@ use Rattle.protection.specs.declared.range.Range.{Range}
 use Rattle.interrupts.specs.Sources.{clearedAt}
 use Rattle.entries.specs.Entry.{MadeOf}
 use Rattle.entries.specs.declared.entry.Cause.the-variants as cause
-use Rattle.execute.specs.Decision.{Decision, enters, actDecides, performedOf}
+use Rattle.execute.specs.Decision.{Decision, entryFor, actDecides, performedOf}
 use Rattle.execute.specs.Execute.{actOf}
 use Rattle.decisions.specs.Beginning.{Beginning, Interrupts, Traps, Executes, beginningOf}
 
 abbrev pub decidedBy : Registers → List Range → Memory → Beginning → Decision
-decidedBy r rs m (Interrupts b) = enters (cause.Interrupt (b .source) (b .level))
-decidedBy r rs m (Traps t) = enters (cause.Trap t (pc r))
+decidedBy r rs m (Interrupts b) = entryFor (cause.Interrupt (b .source) (b .level))
+decidedBy r rs m (Traps t) = entryFor (cause.Trap t (pc r))
 decidedBy r rs m (Executes i) = actDecides (i .next) r (actOf i r rs m)
 
 -- what the step is to do

@@ -30,14 +30,14 @@ pub data Decision : Type 0 where
   Return : Half → (Registers → Registers) → Decision
 
 -- an entry by its cause
-abbrev pub enters : Cause → Decision
-enters c = Save (causeEvent c) Upper 0 (causeEntry c)
+abbrev pub entryFor : Cause → Decision
+entryFor c = Save (causeEvent c) Upper 0 (causeEntry c)
 
 -- the trapping instruction is the return address, but the next one for SYSCALL, TRAPV, TRAPSV
 abbrev pub effectDecides : ℕ → ℕ → Effect → Decision
 effectDecides pc next (acts.Sets q) = Keep q
-effectDecides pc next (acts.Traps t) = enters (cause.Trap t pc)
-effectDecides pc next (acts.TrapsAfter t) = enters (cause.Trap t next)
+effectDecides pc next (acts.Traps t) = entryFor (cause.Trap t pc)
+effectDecides pc next (acts.TrapsAfter t) = entryFor (cause.Trap t next)
 
 -- an instruction by its act, with the address after it
 abbrev pub actDecides : ℕ → Registers → Act → Decision

@@ -20,8 +20,8 @@ use Rattle.protection.specs.declared.range.Permit.the-variants.{Unnamed}
 use Rattle.protection.specs.declared.access.Check.the-variants.{Passes, Fails}
 use Rattle.protection.proofs.Searches.{permitted-by}
 
-never : {t : Trap} → Fails t ≡ Passes → ⊥
-never e = let z : _≡_ {A = ℕ} 0 1 = cc in omega arith
+fails-passes : {t : Trap} → Fails t ≡ Passes → ⊥
+fails-passes e = let z : _≡_ {A = ℕ} 0 1 = cc in omega arith
 
 module _ (core : List ℕ) (rs : List Range) (right : Right) (address : Address) where
   -- the range named
@@ -71,5 +71,5 @@ module _ (core : List ℕ) (rs : List Range) (right : Right) (address : Address)
     where
       by : (b g : Bool) → cond b (Fails MPP) (cond g Passes (Fails (deniedOf right))) ≡ Passes → g ≡ true
       by b true e = refl
-      by true false e = absurd (never e)
-      by false false e = absurd (never e)
+      by true false e = absurd (fails-passes e)
+      by false false e = absurd (fails-passes e)
