@@ -33,22 +33,22 @@ use Rattle.image.specs.declared.fetch.Fetched.{Fetched}
 use Rattle.image.specs.declared.fetch.Fetched.the-variants.{Found, Nothing}
 use Rattle.accesses.specs.Reach.{dataAddress}
 use Rattle.decisions.specs.Beginning.{Beginning, Interrupts, checkBegins, fetchingAt, beginningOf}
-use Rattle.permits.specs.Permits.{Asked, none, access, dataBy, dataIn, fetchAsked, dataAsked, permitFor, permitsBy, noPermits, begunPermits, permitsOf, NamedFor}
+use Rattle.permits.specs.Permits.{Asked, none, access, dataBy, dataIn, fetchAsked, dataAsked, permitAsked, permitsBy, noPermits, begunPermits, permitsOf, NamedFor}
 use Rattle.permits.specs.declared.Permits.{Permits}
 
 module _ (core : List ℕ) (rs : List Range) where
-  pub of-none : Unnamed ≡ permitFor core rs none
-  unfolding permitFor
+  pub of-none : Unnamed ≡ permitAsked core rs none
+  unfolding permitAsked
   of-none = refl
 
   -- ---- one access
   module _ (right : Right) (address : Address) where
-    pub of-access : {p : Permit} → p ≡ permitOf core rs right address → p ≡ permitFor core rs (access right address)
-    unfolding permitFor
+    pub of-access : {p : Permit} → p ≡ permitOf core rs right address → p ≡ permitAsked core rs (access right address)
+    unfolding permitAsked
     of-access e = e
 
-    not-asked : SYSCON·PROTEN (getD core 9 0) ≡ false → Unnamed ≡ permitFor core rs (access right address)
-    unfolding permitFor permitOf
+    not-asked : SYSCON·PROTEN (getD core 9 0) ≡ false → Unnamed ≡ permitAsked core rs (access right address)
+    unfolding permitAsked permitOf
     not-asked p = rw p (by (peripheral address))
       where
         by : (b : Bool) → Unnamed ≡ cond (not b && false) (lowestOf rs (PSW·PRS (getD core 1 0)) right address) Unnamed
@@ -66,33 +66,33 @@ module _ (core : List ℕ) (rs : List Range) where
     only false e p (inl h) = absurd (never (sym (h .0) ∙ e))
     only false e p (inr h) = h .1
 
-  pub named : (a : Asked) (p : Permit) → p ≡ permitFor core rs a → Exactly (NamedFor core rs a) p
-  unfolding permitFor permitOf
+  pub named : (a : Asked) (p : Permit) → p ≡ permitAsked core rs a → Exactly (NamedFor core rs a) p
+  unfolding permitAsked permitOf
   named none p e = exactly (NamedFor core rs none) Unnamed refl (λ x h. h) p e .1
   named (access right address) p e =
-      exactly (NamedFor core rs (access right address)) (permitFor core rs (access right address)) (says right address (asks core address) refl) (only right address (asks core address) refl) p e .1
+      exactly (NamedFor core rs (access right address)) (permitAsked core rs (access right address)) (says right address (asks core address) refl) (only right address (asks core address) refl) p e .1
 
   -- with protection off none is named
-  off : (a : Asked) → SYSCON·PROTEN (getD core 9 0) ≡ false → Unnamed ≡ permitFor core rs a
+  off : (a : Asked) → SYSCON·PROTEN (getD core 9 0) ≡ false → Unnamed ≡ permitAsked core rs a
   off none p = of-none
   off (access right address) p = not-asked right address p
 
   -- ---- the data access of an instruction
-  pub of-data : (a : List ℕ) (i : Instruction) (k imm : ℕ) (address : Address) → k ≡ i .a → imm ≡ i .imm → address ≡ dataAddress (getD a k 0) imm → (x y : Access) → y ≡ accessOf (i .op) → y ≡ x → {p : Permit} → p ≡ permitFor core rs (dataBy x address) → p ≡ permitFor core rs (dataIn i a)
+  pub of-data : (a : List ℕ) (i : Instruction) (k imm : ℕ) (address : Address) → k ≡ i .a → imm ≡ i .imm → address ≡ dataAddress (getD a k 0) imm → (x y : Access) → y ≡ accessOf (i .op) → y ≡ x → {p : Permit} → p ≡ permitAsked core rs (dataBy x address) → p ≡ permitAsked core rs (dataIn i a)
   of-data a i k imm address f g is x y e d h = rw (← f, ← g, ← e, d, ← is) h
 
   module _ (img a : List ℕ) where
     -- ---- of the instruction at PC
-    pub not-fetched : (t : Trap) → Fails t ≡ checkOf core rs right.Execute (asAddress (getD core 0 0)) → Unnamed ≡ permitFor core rs (dataAsked a (fetchingAt img core rs (getD core 0 0)))
-    unfolding permitFor fetchingAt
+    pub not-fetched : (t : Trap) → Fails t ≡ checkOf core rs right.Execute (asAddress (getD core 0 0)) → Unnamed ≡ permitAsked core rs (dataAsked a (fetchingAt img core rs (getD core 0 0)))
+    unfolding permitAsked fetchingAt
     not-fetched t e = rw (← e)
 
     module _ (e : Passes ≡ checkOf core rs right.Execute (asAddress (getD core 0 0))) where
-      pub no-record : Nothing ≡ fetchOf img (getD core 0 0) → Unnamed ≡ permitFor core rs (dataAsked a (fetchingAt img core rs (getD core 0 0)))
-      unfolding permitFor fetchingAt
+      pub no-record : Nothing ≡ fetchOf img (getD core 0 0) → Unnamed ≡ permitAsked core rs (dataAsked a (fetchingAt img core rs (getD core 0 0)))
+      unfolding permitAsked fetchingAt
       no-record f = rw (← e, ← f)
 
-      pub of-record : (i : Instruction) → Found i ≡ fetchOf img (getD core 0 0) → {p : Permit} → p ≡ permitFor core rs (dataIn i a) → p ≡ permitFor core rs (dataAsked a (fetchingAt img core rs (getD core 0 0)))
+      pub of-record : (i : Instruction) → Found i ≡ fetchOf img (getD core 0 0) → {p : Permit} → p ≡ permitAsked core rs (dataIn i a) → p ≡ permitAsked core rs (dataAsked a (fetchingAt img core rs (getD core 0 0)))
       unfolding fetchingAt
       of-record i f h = rw (← e, ← f) h
 
@@ -101,8 +101,8 @@ module _ (core : List ℕ) (rs : List Range) where
       abbrev Says : Beginning → Permits → Type 0
       Says s p = (p ≡ begunPermits a core rs s) × (Exactly (NamedFor core rs (fetchAsked (getD core 0 0) s)) (p .fetch) × Exactly (NamedFor core rs (dataAsked a s)) (p .data))
 
-      says-both : (s : Beginning) (f d : Permit) → f ≡ permitFor core rs (fetchAsked (getD core 0 0) s) → d ≡ permitFor core rs (dataAsked a s) → Says s (permitsBy f d)
-      says-both s f d p q = (ap (λ (x : Permit). permitsBy x d) p ∙ ap (permitsBy (permitFor core rs (fetchAsked (getD core 0 0) s))) q, (named (fetchAsked (getD core 0 0) s) f p, named (dataAsked a s) d q))
+      says-both : (s : Beginning) (f d : Permit) → f ≡ permitAsked core rs (fetchAsked (getD core 0 0) s) → d ≡ permitAsked core rs (dataAsked a s) → Says s (permitsBy f d)
+      says-both s f d p q = (ap (λ (x : Permit). permitsBy x d) p ∙ ap (permitsBy (permitAsked core rs (fetchAsked (getD core 0 0) s))) q, (named (fetchAsked (getD core 0 0) s) f p, named (dataAsked a s) d q))
 
       abbrev pub Both : Permits → Type 0
       Both p = (p ≡ permitsOf img a core xs rs) × (Exactly (NamedFor core rs (fetchAsked (getD core 0 0) (beginningOf img core xs rs))) (p .fetch) × Exactly (NamedFor core rs (dataAsked a (beginningOf img core xs rs))) (p .data))
@@ -128,6 +128,6 @@ module _ (core : List ℕ) (rs : List Range) where
       unfolding fetchingAt
       fetch-asked = asks-fetch (checkOf core rs right.Execute (asAddress (getD core 0 0))) (fetchOf img (getD core 0 0))
 
-      pub both-quiet : takes (getD core 5 0) (bestOf xs .level) ≡ false → {f d : Permit} → f ≡ permitFor core rs (access right.Execute (asAddress (getD core 0 0))) → d ≡ permitFor core rs (dataAsked a (fetchingAt img core rs (getD core 0 0))) → Both (permitsBy f d)
+      pub both-quiet : takes (getD core 5 0) (bestOf xs .level) ≡ false → {f d : Permit} → f ≡ permitAsked core rs (access right.Execute (asAddress (getD core 0 0))) → d ≡ permitAsked core rs (dataAsked a (fetchingAt img core rs (getD core 0 0))) → Both (permitsBy f d)
       unfolding beginningOf
-      both-quiet e {f} {d} p q = let s = fetchingAt img core rs (getD core 0 0) in both (permitsBy f d) s (rw e refl) (says-both s f d (p ∙ ap (permitFor core rs) (sym fetch-asked)) q)
+      both-quiet e {f} {d} p q = let s = fetchingAt img core rs (getD core 0 0) in both (permitsBy f d) s (rw e refl) (says-both s f d (p ∙ ap (permitAsked core rs) (sym fetch-asked)) q)

@@ -50,9 +50,9 @@ dataAsked a (Traps t) = none
 dataAsked a (Executes i) = dataIn i a
 
 -- the range named for it
-unfoldable pub permitFor : List ℕ → List Range → Asked → Permit
-permitFor core rs none = Unnamed
-permitFor core rs (access right address) = permitOf core rs right address
+unfoldable pub permitAsked : List ℕ → List Range → Asked → Permit
+permitAsked core rs none = Unnamed
+permitAsked core rs (access right address) = permitOf core rs right address
 
 abbrev pub permitsBy : Permit → Permit → Permits
 permitsBy f d = record { fetch = f; «data» = d }
@@ -62,7 +62,7 @@ abbrev pub noPermits : Permits
 noPermits = permitsBy Unnamed Unnamed
 
 abbrev pub begunPermits : List ℕ → List ℕ → List Range → Beginning → Permits
-begunPermits a core rs s = permitsBy (permitFor core rs (fetchAsked (getD core PC 0) s)) (permitFor core rs (dataAsked a s))
+begunPermits a core rs s = permitsBy (permitAsked core rs (fetchAsked (getD core PC 0) s)) (permitAsked core rs (dataAsked a s))
 
 -- both of a step with these address and core registers and these requests
 unfoldable pub permitsOf : List ℕ → List ℕ → List ℕ → List ℕ → List Range → Permits

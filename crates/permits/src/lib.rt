@@ -30,7 +30,7 @@ ghost use Rattle.image.specs.Marks.{longOnly};
 ghost use Rattle.image.specs.Fetch.{instructionAt, FieldsHold};
 ghost use Rattle.registers.specs.Core.{PC};
 ghost use Rattle.decisions.specs.Beginning.{fetchingAt, beginningOf};
-ghost use Rattle.permits.specs.Permits.{access, dataIn, fetchAsked, dataAsked, permitFor, permitsOf, NamedFor};
+ghost use Rattle.permits.specs.Permits.{access, dataIn, fetchAsked, dataAsked, permitAsked, permitsOf, NamedFor};
 
 // The ranges named for a step's fetch and for its data access.
 pub struct Permits {
@@ -48,7 +48,7 @@ fn permit_record(
     pc: u32,
 ) -> Permit
     requires { ⌜ (at + 8 ≤ length (now image)) × FieldsHold (instructionAt (now image) at pc) ⌝ }
-    ensures { λ r. ⌜ r ≡ permitFor (now (core .entry)) (rangesIn (now (words .entry))) (dataIn (instructionAt (now (image .entry)) at pc) (now (a .entry))) ⌝ }
+    ensures { λ r. ⌜ r ≡ permitAsked (now (core .entry)) (rangesIn (now (words .entry))) (dataIn (instructionAt (now (image .entry)) at pc) (now (a .entry))) ⌝ }
 {
     let o = read_operand(image, at);
     let x = o.a;
@@ -82,7 +82,7 @@ fn permit_data(
     words: &[u32; 96],
 ) -> Permit
     requires { ⌜ ImageHolds (now image) × (long ≡ true → longOnly (now image) ≡ true) ⌝ }
-    ensures { λ r. ⌜ r ≡ permitFor (now (core .entry)) (rangesIn (now (words .entry))) (dataAsked (now (a .entry)) (fetchingAt (now (image .entry)) (now (core .entry)) (rangesIn (now (words .entry))) (getD (now (core .entry)) PC 0))) ⌝ }
+    ensures { λ r. ⌜ r ≡ permitAsked (now (core .entry)) (rangesIn (now (words .entry))) (dataAsked (now (a .entry)) (fetchingAt (now (image .entry)) (now (core .entry)) (rangesIn (now (words .entry))) (getD (now (core .entry)) PC 0))) ⌝ }
 {
     let pc = core[PC];
     match check_access(core, words, Right::Execute, as_address(pc)) {
