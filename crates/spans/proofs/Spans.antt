@@ -1,6 +1,6 @@
 -- Records that are fetched one after the other without a trap.
 -- Assumes nothing.
-use Prim.Native.Nat.{ℕ, _+_, _-_, _*_, _%_, _^_, _≤_, _<_}
+use Prim.Native.Nat.{ℕ, _+_, _-_, _*_, _%_, _^_, _≤_, _<_, min}
 use native.Mathlib.Omega.{arith}
 use native.Mathlib.Decide.{ℕ-discrete}
 use mathlib.Core.Path.{_≡_, refl, sym, ap, subst, _∙_}
@@ -55,7 +55,7 @@ use Rattle.execute.specs.Execute.{executeOf}
 use Rattle.decisions.specs.Beginning as beginning
 use Rattle.decisions.specs.Beginning.{Executes, checkBegins, fetchingAt}
 use Rattle.decisions.proofs.Beginnings.{fetchedStep, executes}
-use Rattle.spans.specs.Spans.{fetchableBy, fetchableOf, foundOf, spanOf, begin, IsSpan, indexOn, IndexTells, namesIn, markedIndex, EndsAt, placeAfter, LiesAhead}
+use Rattle.spans.specs.Spans.{recordsBelow, fetchableBy, fetchableOf, foundOf, spanOf, begin, IsSpan, indexOn, IndexTells, namesIn, markedIndex, EndsAt, placeAfter, LiesAhead}
 use Rattle.spans.specs.declared.Span.{Span}
 use Rattle.spans.specs.declared.Ahead.the-variants.{Records}
 use Rattle.spans.proofs.Holds.{LiesInBody, Lies, SpanHolds, IndexIn, PlaceIn}
@@ -115,11 +115,21 @@ module _ (ws core : List ℕ) (address : Address) (k : ℕ) (a : PermittedBy (ra
   pub range-below : k < 32
   range-below = one-of-all (rangesIn ws) (PSW·PRS (getD core 1 0)) Execute address k (omega arith) a
 
-  pub upper-is : getD ws (3 * k + 1) 0 ≡ getD (rangesIn ws) k noRange .upper
+  upper-is : getD ws (3 * k + 1) 0 ≡ getD (rangesIn ws) k noRange .upper
   upper-is = sym (ap (λ (g : Range). g .upper) (ranges-at ws k range-below))
 
   pub below-bound : address .0 < getD ws (3 * k + 1) 0
   below-bound = rw upper-is (below-upper (rangesIn ws) (PSW·PRS (getD core 1 0)) Execute address k a)
+
+-- the number below the upper bound of the range named, as the words have it
+module _ (ws core : List ℕ) (pc most k below : ℕ) (p : SYSCON·PROTEN (getD core 9 0) ≡ true) (q : By k ≡ lowestOf (rangesIn ws) (PSW·PRS (getD core 1 0)) Execute (asAddress pc)) (is : below ≡ recordsBelow (getD ws (3 * k + 1) 0) pc) where
+  pub fetch-least : (r : ℕ) → r ≡ min below most → r ≡ fetchableOf core (rangesIn ws) pc most
+  fetch-least r e =
+      let rs = rangesIn ws in
+      let set = PSW·PRS (getD core 1 0) in
+      let l : Lowest rs set Execute (asAddress pc) (By k) = subst (Lowest rs set Execute (asAddress pc)) (sym q) (lowest-says rs Execute (asAddress pc) set) in
+      let same : min below most ≡ fetchableBy rs pc most (By k) = rw (is, upper-is ws core (asAddress pc) k (l .one)) in
+      e ∙ same ∙ fetch-by core rs pc most (By k) p q
 
 -- ---- the span at pc
 module _ (img : List ℕ) (g : ImageRight img) (long : Bool) (pc : ℕ) (b : InBody) (is : b ≡ foundOf img long pc) (h : 0 < b .rest .records) where
