@@ -18,35 +18,35 @@ unfoldable pub packed_of : ℕ → ℕ → ℕ → ℕ → ℕ → ℕ
 packed_of kind number tin permits high = kind + number * 2 ^ 8 + tin * 2 ^ 16 + permits * 2 ^ 24 + high * 2 ^ 32
 
 -- 0 where no range is named, else 4 and the range's number among the four of set PRS
-abbrev pub permitNumber : Permit → ℕ
-permitNumber Unnamed = 0
-permitNumber (By k) = 4 + k % 4
+abbrev pub permit_number : Permit → ℕ
+permit_number Unnamed = 0
+permit_number (By k) = 4 + k % 4
 
 -- bits 26:24 for the fetch, 29:27 for the data access
-abbrev pub permitsNumber : Permits → ℕ
-permitsNumber p = permitNumber p.fetch + permitNumber p.data * 2 ^ 3
+abbrev pub permits_number : Permits → ℕ
+permits_number p = permit_number p.fetch + permit_number p.data * 2 ^ 3
 
 -- 0 an instruction, 1 an interrupt with its source, 2 a trap with class and TIN
-abbrev pub eventAnswer : Event → ℕ → ℕ → ℕ
-eventAnswer event.Instruction permits made = packed_of 0 0 0 permits made
-eventAnswer (event.Interrupt source) permits made = packed_of 1 source 0 permits made
-eventAnswer (event.Trap t) permits made = packed_of 2 t.class t.tin permits made
+abbrev pub event_answer : Event → ℕ → ℕ → ℕ
+event_answer event.Instruction permits made = packed_of 0 0 0 permits made
+event_answer (event.Interrupt source) permits made = packed_of 1 source 0 permits made
+event_answer (event.Trap t) permits made = packed_of 2 t.class t.tin permits made
 
 -- 4 a refusal, with its number and its place
-abbrev pub refusalAnswer : Refusal → ℕ → ℕ
-refusalAnswer x permits = packed_of 4 (number_of x) 0 permits (fault_of x)
+abbrev pub refusal_answer : Refusal → ℕ → ℕ
+refusal_answer x permits = packed_of 4 (number_of x) 0 permits (fault_of x)
 
 -- 3 a stop, with its number
-abbrev pub outcomeAnswer : Outcome → ℕ → ℕ → ℕ
-outcomeAnswer (Made e) permits made = eventAnswer e permits made
-outcomeAnswer (Stopped s) permits made = packed_of 3 (stop_number s) 0 permits made
-outcomeAnswer (Refused x) permits made = refusalAnswer x permits
+abbrev pub outcome_answer : Outcome → ℕ → ℕ → ℕ
+outcome_answer (Made e) permits made = event_answer e permits made
+outcome_answer (Stopped s) permits made = packed_of 3 (stop_number s) 0 permits made
+outcome_answer (Refused x) permits made = refusal_answer x permits
 
 -- 5 a record of a wrong length
-abbrev pub wrongLength : ℕ
-wrongLength = packed_of 5 0 0 0 0
+abbrev pub wrong_length : ℕ
+wrong_length = packed_of 5 0 0 0 0
 
 -- 6 a start that is accepted
-abbrev pub verdictAnswer : Verdict → ℕ
-verdictAnswer verdict.Accepted = packed_of 6 0 0 0 0
-verdictAnswer (verdict.Refused x) = refusalAnswer x 0
+abbrev pub verdict_answer : Verdict → ℕ
+verdict_answer verdict.Accepted = packed_of 6 0 0 0 0
+verdict_answer (verdict.Refused x) = refusal_answer x 0

@@ -1,7 +1,7 @@
 // The answers as numbers: the kind in bits 7:0, its number in 15:8, a TIN in 23:16, the permitting ranges in 31:24, and the high word.
 
 ghost use Rattle.std.specs.Prelude.{◌≡◌, ◌<◌};
-ghost use Rattle.answers.specs.Answers.{packed_of, permitNumber, permitsNumber, eventAnswer, refusalAnswer, outcomeAnswer, wrongLength, verdictAnswer};
+ghost use Rattle.answers.specs.Answers.{packed_of, permit_number, permits_number, event_answer, refusal_answer, outcome_answer, wrong_length, verdict_answer};
 
 use events::event::{Event, stop_number};
 use inputs::verdict::{Refusal, Verdict, fault, number};
@@ -21,7 +21,7 @@ fn packed(kind: u8, number: u8, tin: u8, permits: u8, high: u32) -> u64
 
 // A permitting range by its number among the four of its set, with bit 2; 0 for none.
 fn permit(p: Permit) -> u8
-    ensures { (result ≡ permitNumber p) × (result < 8) }
+    ensures { (result ≡ permit_number p) × (result < 8) }
 {
     match p {
         Permit::Unnamed => 0,
@@ -31,7 +31,7 @@ fn permit(p: Permit) -> u8
 
 // The fetch's range, and three bits higher the data access's.
 pub fn permits(p: Permits) -> u8
-    ensures { result ≡ permitsNumber p }
+    ensures { result ≡ permits_number p }
 {
     let fetch = p.fetch;
     let data = p.data;
@@ -39,7 +39,7 @@ pub fn permits(p: Permits) -> u8
 }
 
 fn event_answer(e: Event, permits: u8, high: u32) -> u64
-    ensures { result ≡ eventAnswer e permits high }
+    ensures { result ≡ event_answer e permits high }
 {
     match e {
         Event::Instruction => packed(0, 0, 0, permits, high),
@@ -49,14 +49,14 @@ fn event_answer(e: Event, permits: u8, high: u32) -> u64
 }
 
 fn refusal_answer(x: Refusal, permits: u8) -> u64
-    ensures { result ≡ refusalAnswer x permits }
+    ensures { result ≡ refusal_answer x permits }
 {
     packed(4, number(x) as u8, 0, permits, fault(x))
 }
 
 // Of a step or a run that has made so many steps.
 pub fn outcome_answer(o: Outcome, permits: u8, made: u32) -> u64
-    ensures { result ≡ outcomeAnswer o permits made }
+    ensures { result ≡ outcome_answer o permits made }
 {
     match o {
         Outcome::Made(e) => event_answer(e, permits, made),
@@ -67,14 +67,14 @@ pub fn outcome_answer(o: Outcome, permits: u8, made: u32) -> u64
 
 // Of a core record of another length than 616.
 pub fn wrong_length() -> u64
-    ensures { result ≡ wrongLength }
+    ensures { result ≡ wrong_length }
 {
     packed(5, 0, 0, 0, 0)
 }
 
 // Of a start.
 pub fn verdict_answer(v: Verdict) -> u64
-    ensures { result ≡ verdictAnswer v }
+    ensures { result ≡ verdict_answer v }
 {
     match v {
         Verdict::Accepted => packed(6, 0, 0, 0, 0),

@@ -26,17 +26,17 @@ use Rattle.permits.specs.declared.Permits.{Permits}
 use Rattle.series.specs.Calls.{state}
 use Rattle.records.specs.CoreRecord.{registers_in, requests_in, ranges_of, stored_in}
 use Rattle.records.proofs.Kept.{stored_kept, registers_back}
-use Rattle.answers.specs.Answers.{packed_of, permitsNumber, outcomeAnswer, wrongLength, verdictAnswer}
+use Rattle.answers.specs.Answers.{packed_of, permits_number, outcome_answer, wrong_length, verdict_answer}
 use Rattle.deqbaryn.specs.Host.{is_record, start_answer, StartTells, Called, called, step_stored, run_stored, step_call, StepTells, StepHolds, run_on, run_called, run_call, RunTells, RunHolds, UnmadeKeeps}
 use Rattle.deqbaryn.specs.Calls.{HostFollows, AcceptedFollows}
 
 -- only a start that is accepted is answered so
-accepted : (v : Verdict) → verdictAnswer v ≡ verdictAnswer verdict.Accepted → v ≡ verdict.Accepted
+accepted : (v : Verdict) → verdict_answer v ≡ verdict_answer verdict.Accepted → v ≡ verdict.Accepted
 unfolding packed_of
 accepted verdict.Accepted e = refl
 accepted (verdict.Refused x) e = absurd (omega arith)
 
-wrong_differs : wrongLength ≡ verdictAnswer verdict.Accepted → ⊥
+wrong_differs : wrong_length ≡ verdict_answer verdict.Accepted → ⊥
 unfolding packed_of
 wrong_differs e = omega arith
 
@@ -58,7 +58,7 @@ module _ (bytes : List ℕ) (l : length bytes ≡ 616) (q : Registers) (w : Word
 
 module _ (bytes : List ℕ) (m : Memory) (img : List ℕ) where
   -- ---- a record of another length
-  module _ (w : length bytes ≡ 616 → ⊥) {n : ℕ} (is : n ≡ wrongLength) where
+  module _ (w : length bytes ≡ 616 → ⊥) {n : ℕ} (is : n ≡ wrong_length) where
     pub start_wrong : (n ≡ start_answer bytes m img) × (StartTells bytes m img n × AcceptedFollows bytes m n)
     start_wrong = (rw (ne_eqb (length bytes) 616 w) is, (λ l. absurd (w l), λ e. absurd (wrong_differs (sym is ∙ e))))
 
@@ -70,14 +70,14 @@ module _ (bytes : List ℕ) (m : Memory) (img : List ℕ) where
 
   -- ---- a record, with what is read from it
   module _ (l : length bytes ≡ 616) {r : Registers} (reg : r ≡ registers_in bytes) where
-    pub start_right : {v : Verdict} {n : ℕ} → v ≡ start_verdict m img (pc r) (fcx r) (pcxi r) → Exactly (StartSays m img (pc r) (fcx r) (pcxi r)) v → (v ≡ verdict.Accepted → HostFollows (state r m)) → n ≡ verdictAnswer v
+    pub start_right : {v : Verdict} {n : ℕ} → v ≡ start_verdict m img (pc r) (fcx r) (pcxi r) → Exactly (StartSays m img (pc r) (fcx r) (pcxi r)) v → (v ≡ verdict.Accepted → HostFollows (state r m)) → n ≡ verdict_answer v
         → (n ≡ start_answer bytes m img) × (StartTells bytes m img n × AcceptedFollows bytes m n)
     start_right {v} said x follows is =
-        (rw (eq-eqb (length bytes) 616 l, ← reg) (is ∙ ap verdictAnswer said), (λ _. record { answer = v; number = is; exactly = rw (← reg) x }, λ e. rw (← reg) (follows (accepted v (sym is ∙ e)))))
+        (rw (eq-eqb (length bytes) 616 l, ← reg) (is ∙ ap verdict_answer said), (λ _. record { answer = v; number = is; exactly = rw (← reg) x }, λ e. rw (← reg) (follows (accepted v (sym is ∙ e)))))
 
     module _ {xs : List ℕ} (req : xs ≡ requests_in bytes) {rs : List Range} (rng : rs ≡ ranges_of bytes) {o : Outcome} {q : Registers} {ys : List ℕ} {after : Memory} where
       module _ {p : Permits} (s : stepped o q ys after p ≡ step_of img r xs rs m) {core : List ℕ} (is : core ≡ step_stored o q ys bytes) where
-        step_called_lem : {n : ℕ} → n ≡ outcomeAnswer o (permitsNumber p) 0 → called n core after ≡ step_call bytes m img
+        step_called_lem : {n : ℕ} → n ≡ outcome_answer o (permits_number p) 0 → called n core after ≡ step_call bytes m img
         step_called_lem e = rw (eq-eqb (length bytes) 616 l, ← reg, ← req, ← rng, ← s, is, e)
 
         step_holds : Words 16 q.d × Words 16 q.a × Words 10 q.core → StepHolds bytes m img core
@@ -85,7 +85,7 @@ module _ (bytes : List ℕ) (m : Memory) (img : List ℕ) where
             rw (← reg, ← req, ← rng, ← s, is)
             (step_stored_lem bytes l q w ys reg xs m after img rs o p (subst (λ (v : StepOf). Unmoved img r xs rs m v.outcome v) (sym s) (unmoved img r xs rs m)))
 
-        pub step_right : Words 16 q.d × Words 16 q.a × Words 10 q.core → Exactly (StepSays m img (pc r)) (verdict_in o) → {n : ℕ} → n ≡ outcomeAnswer o (permitsNumber p) 0
+        pub step_right : Words 16 q.d × Words 16 q.a × Words 10 q.core → Exactly (StepSays m img (pc r)) (verdict_in o) → {n : ℕ} → n ≡ outcome_answer o (permits_number p) 0
             → (called n core after ≡ step_call bytes m img) × (StepTells bytes m img × StepHolds bytes m img core)
         step_right w x e = (step_called_lem e, (λ _. rw (← reg, ← req, ← rng, ← s) x, step_holds w))
 
@@ -95,7 +95,7 @@ module _ (bytes : List ℕ) (m : Memory) (img : List ℕ) where
         run_holds w u is _ = rw (← reg, ← req, ← rng, ← s, is) (run_stored_lem bytes l q w ys reg xs m after o made u)
 
         pub run_right : Words 16 q.d × Words 16 q.a × Words 10 q.core → RefusedKeeps r xs m (ran o made q ys after)
-            → Exactly (StepSays m img (pc r)) (verdict_in o) → {core : List ℕ} → core ≡ run_stored o q ys bytes → {n : ℕ} → n ≡ outcomeAnswer o 0 made
+            → Exactly (StepSays m img (pc r)) (verdict_in o) → {core : List ℕ} → core ≡ run_stored o q ys bytes → {n : ℕ} → n ≡ outcome_answer o 0 made
             → (called n core after ≡ run_call k bytes m img) × RunTells k bytes m img × RunHolds k bytes m img core
         run_right w u x is e =
             (rw (eq-eqb (length bytes) 616 l, ← reg, ← req, ← rng, ← s, is, e), λ _. rw (← reg, ← req, ← rng, ← s) x, run_holds w u is)
@@ -110,7 +110,7 @@ module _ (bytes : List ℕ) (m : Memory) (img : List ℕ) where
     pub run_kept : (k : ℕ) {n : ℕ} {core : List ℕ} {after : Memory} → called n core after ≡ run_call k bytes m img → UnmadeKeeps k bytes m img core after
     run_kept k is z = let h = by (is_record bytes) in (ap (λ (x : Called). x.core) is ∙ h.0, ap (λ (x : Called). x.memory) is ∙ h.1)
       where
-        by : (t : Bool) → (let x = cond t (run_called (run_on k bytes m img) bytes) (called wrongLength bytes m) in (x.core ≡ bytes) × (x.memory ≡ m))
+        by : (t : Bool) → (let x = cond t (run_called (run_on k bytes m img) bytes) (called wrong_length bytes m) in (x.core ≡ bytes) × (x.memory ≡ m))
         by true =
             let l = none_made img (registers_in bytes) (requests_in bytes) (ranges_of bytes) m k z in
             (rw (l.registers, l.requests) (stored (run_on k bytes m img).outcome), l.memory)

@@ -5,7 +5,7 @@ use Rattle.inputs.specs.declared.verdict.Verdict.TheVariants as verdict
 use Rattle.series.specs.Calls.{Image, Kind, step, run, Call, State, state, after_all}
 use Rattle.series.specs.Claim.{Follows}
 use Rattle.records.specs.CoreRecord.{registers_in, requests_in, ranges_of}
-use Rattle.answers.specs.Answers.{verdictAnswer}
+use Rattle.answers.specs.Answers.{verdict_answer}
 use Rattle.deqbaryn.specs.Host.{is_record, Called, step_call, run_call}
 
 -- a call of deqbaryn_step or deqbaryn_run: the record and the image that the host lends, each a string of bytes
@@ -50,4 +50,4 @@ pub record HostFollows (s : State) : Type 0 where
 
 -- from a start that is accepted
 abbrev pub AcceptedFollows : List ℕ → Memory → ℕ → Type 0
-AcceptedFollows bytes m n = n ≡ verdictAnswer verdict.Accepted → HostFollows (state (registers_in bytes) m)
+AcceptedFollows bytes m n = n ≡ verdict_answer verdict.Accepted → HostFollows (state (registers_in bytes) m)

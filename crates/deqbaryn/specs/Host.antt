@@ -11,7 +11,7 @@ use Rattle.machine.specs.Run.{RunOf, run_of}
 use Rattle.machine.specs.declared.answer.Outcome.{Outcome}
 use Rattle.machine.specs.declared.answer.Outcome.TheVariants.{Made, Stopped, Refused}
 use Rattle.records.specs.CoreRecord.{registers_in, requests_in, ranges_of, stored_in}
-use Rattle.answers.specs.Answers.{permitsNumber, outcomeAnswer, wrongLength, verdictAnswer}
+use Rattle.answers.specs.Answers.{permits_number, outcome_answer, wrong_length, verdict_answer}
 
 -- the version of the host's interface
 abbrev pub version : ℕ
@@ -22,14 +22,14 @@ is_record bytes = eqb (length bytes) 616
 
 -- ---- a start, with PC, FCX and PCXI of the record
 abbrev pub start_on : Registers → Memory → List ℕ → ℕ
-start_on r m img = verdictAnswer (start_verdict m img (pc r) (fcx r) (pcxi r))
+start_on r m img = verdict_answer (start_verdict m img (pc r) (fcx r) (pcxi r))
 
 abbrev pub start_answer : List ℕ → Memory → List ℕ → ℕ
-start_answer bytes m img = cond (is_record bytes) (start_on (registers_in bytes) m img) wrongLength
+start_answer bytes m img = cond (is_record bytes) (start_on (registers_in bytes) m img) wrong_length
 
 -- accepted or refused exactly where the seven rules say so
 abbrev pub StartTells : List ℕ → Memory → List ℕ → ℕ → Type 0
-StartTells bytes m img n = length bytes ≡ 616 → (let r = registers_in bytes in Tells verdictAnswer (StartSays m img (pc r) (fcx r) (pcxi r)) n)
+StartTells bytes m img n = length bytes ≡ 616 → (let r = registers_in bytes in Tells verdict_answer (StartSays m img (pc r) (fcx r) (pcxi r)) n)
 
 -- ---- a step or a run: its answer, and what it leaves of the record and the windows
 pub record Called : Type 0 where
@@ -58,10 +58,10 @@ step_on bytes m img = step_of img (registers_in bytes) (requests_in bytes) (rang
 
 -- the outcome, with the ranges that permitted its fetch and its data access
 abbrev pub step_called : StepOf → List ℕ → Called
-step_called s bytes = called (outcomeAnswer s.outcome (permitsNumber s.permits) 0) (step_stored s.outcome s.registers s.requests bytes) s.memory
+step_called s bytes = called (outcome_answer s.outcome (permits_number s.permits) 0) (step_stored s.outcome s.registers s.requests bytes) s.memory
 
 abbrev pub step_call : List ℕ → Memory → List ℕ → Called
-step_call bytes m img = cond (is_record bytes) (step_called (step_on bytes m img) bytes) (called wrongLength bytes m)
+step_call bytes m img = cond (is_record bytes) (step_called (step_on bytes m img) bytes) (called wrong_length bytes m)
 
 -- refused exactly where the rules 1, 13 and 2 to 4 say so, and else made or stopped
 abbrev pub StepTells : List ℕ → Memory → List ℕ → Type 0
@@ -77,10 +77,10 @@ run_on n bytes m img = run_of n img (registers_in bytes) (requests_in bytes) (ra
 
 -- the last step's outcome, with the steps made
 abbrev pub run_called : RunOf → List ℕ → Called
-run_called v bytes = called (outcomeAnswer v.outcome 0 v.made) (run_stored v.outcome v.registers v.requests bytes) v.memory
+run_called v bytes = called (outcome_answer v.outcome 0 v.made) (run_stored v.outcome v.registers v.requests bytes) v.memory
 
 abbrev pub run_call : ℕ → List ℕ → Memory → List ℕ → Called
-run_call n bytes m img = cond (is_record bytes) (run_called (run_on n bytes m img) bytes) (called wrongLength bytes m)
+run_call n bytes m img = cond (is_record bytes) (run_called (run_on n bytes m img) bytes) (called wrong_length bytes m)
 
 -- refused exactly where the rules 1, 13 and 2 to 4 say so
 abbrev pub RunTells : ℕ → List ℕ → Memory → List ℕ → Type 0
