@@ -12,7 +12,7 @@ use protection::access::{Check, check_access};
 use protection::range::Right;
 use registers::{CORE, plus};
 
-#[derive(Drop)]
+#[derive(Clone, Copy)]
 pub enum Reach {
     At(usize),
     Traps(Trap),

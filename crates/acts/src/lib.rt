@@ -1,5 +1,7 @@
 // How an instruction ends. A trap's entry follows it.
 
+#![tactic(auto)]
+
 ghost use Rattle.std.specs.Prelude.{◌≡◌};
 ghost use Rattle.acts.specs.Acts.{control_of, is_same, done_by};
 
@@ -7,7 +9,7 @@ use events::event::Stop;
 use events::trap::Trap;
 use registers::{CORE, ICR, PSW, SYSCON};
 
-#[derive(Drop)]
+#[derive(Clone, Copy)]
 pub enum How {
     Done,
     // done, and ICR, SYSCON or PSW.PRS is another than before
@@ -36,7 +38,7 @@ pub fn passed_on(h: How) -> How
 }
 
 // What interrupts are taken by, and what fetches are checked by: ICR; SYSCON and PSW.PRS.
-#[derive(Drop)]
+#[derive(Clone, Copy)]
 pub struct Control {
     pub icr: u32,
     pub syscon: u32,

@@ -1,5 +1,7 @@
 // The answers as numbers: the kind in bits 7:0, its number in 15:8, a TIN in 23:16, the permitting ranges in 31:24, and the high word.
 
+#![tactic(auto)]
+
 ghost use Rattle.std.specs.Prelude.{◌≡◌, ◌<◌};
 ghost use Rattle.answers.specs.Answers.{packed_of, permit_number, permits_number, event_answer, refusal_answer, outcome_answer, wrong_length, verdict_answer};
 

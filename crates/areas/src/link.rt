@@ -16,7 +16,7 @@ pub fn area_address(l: Link) -> Address
 }
 
 // Where some bytes lie wholly: in the first window or the second, from that byte of it on, or in neither.
-#[derive(Drop)]
+#[derive(Clone, Copy)]
 pub enum Spot {
     First(usize),
     Second(usize),
@@ -24,7 +24,7 @@ pub enum Spot {
 }
 
 // The same, counted through the first window and then through the second.
-#[derive(Drop)]
+#[derive(Clone, Copy)]
 pub enum Place {
     At(usize),
     Outside,

@@ -1,5 +1,7 @@
 // Document 01's bench values, AV of ADDS by 02, point 3, computed and printed. The file stdout has the values that the documents give.
 
+#![tactic(auto)]
+
 ghost use Rattle.bench.specs.Starred.{Starred};
 ghost use Rattle.bench.specs.Accepted.{PoolAccepted};
 

@@ -1,1 +1,3 @@
 // Laws alone: the values of the definitions are words.
+
+#![tactic(auto)]

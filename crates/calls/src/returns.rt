@@ -18,7 +18,7 @@ use memory::address::Address;
 use registers::{CORE, ICR, PC, PCXI, PSW, new_pc};
 
 // Whether there is a context of that half to return to.
-#[derive(Drop)]
+#[derive(Clone, Copy)]
 pub enum Previous {
     There,
     Traps(Trap),

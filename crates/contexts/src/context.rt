@@ -7,7 +7,7 @@ ghost use Rattle.contexts.specs.Context.{upper_of, lower_of};
 
 use registers::{CORE, PCXI, PSW};
 
-#[derive(Drop)]
+#[derive(Clone, Copy)]
 pub enum Half {
     Upper,
     Lower,

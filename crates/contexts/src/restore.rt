@@ -17,7 +17,7 @@ use memory::address::Address;
 use memory::{read_words, word_at};
 use registers::{CORE, FCX, PCXI, PSW};
 
-#[derive(Drop)]
+#[derive(Clone, Copy)]
 pub enum Returned {
     Done,
     // the area lies in neither window

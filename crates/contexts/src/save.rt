@@ -17,13 +17,13 @@ use memory::address::Address;
 use registers::{CORE, FCX, ICR, LCX, PCXI};
 
 // The area for a save, or why there is none.
-#[derive(Drop)]
+#[derive(Clone, Copy)]
 pub enum Room {
     At(usize),
     Stops(Stop),
 }
 
-#[derive(Drop)]
+#[derive(Clone, Copy)]
 pub enum Saved {
     Done,
     // the area taken is the one that LCX names: an FCD entry follows, and there is an area for it

@@ -1,5 +1,7 @@
 // The host library: a start, a step and a run on a core record, two windows and an image that the host lends. No pointer is kept.
 
+#![tactic(auto)]
+
 ghost use Rattle.std.specs.Prelude.{◌≡◌, length};
 ghost use Rattle.memory.specs.Address.{as_address};
 ghost use Rattle.memory.specs.Memory.{lent};

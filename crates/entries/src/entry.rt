@@ -44,7 +44,7 @@ pub fn enter_fcd(
 }
 
 // What an entry is for.
-#[derive(Drop)]
+#[derive(Clone, Copy)]
 pub enum Cause {
     // with its return address
     Trap(Trap, u32),

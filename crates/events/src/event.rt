@@ -5,7 +5,7 @@ ghost use Rattle.events.specs.Events.{stop_number};
 
 use crate::trap::Trap;
 
-#[derive(Drop)]
+#[derive(Clone, Copy)]
 pub enum Event {
     Instruction,
     // with the source
@@ -14,7 +14,7 @@ pub enum Event {
 }
 
 // What a step that is accepted cannot be made for.
-#[derive(Drop)]
+#[derive(Clone, Copy)]
 pub enum Stop {
     // a save with FCX link 0
     NoArea,
@@ -23,7 +23,7 @@ pub enum Stop {
 }
 
 // A step that is accepted.
-#[derive(Drop)]
+#[derive(Clone, Copy)]
 pub enum Ending {
     Made(Event),
     Stopped(Stop),

@@ -3,7 +3,7 @@
 ghost use Rattle.std.specs.Prelude.{◌≡◌};
 ghost use Rattle.events.specs.Traps.{traps, SYS};
 
-#[derive(Drop)]
+#[derive(Clone, Copy)]
 pub struct Trap {
     pub class: u8,
     pub tin: u8,

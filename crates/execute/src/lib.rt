@@ -1,5 +1,7 @@
 // An instruction: what it does, and the entry that may follow it.
 
+#![tactic(auto)]
+
 ghost use Rattle.std.specs.Prelude.{◌≡◌};
 ghost use Rattle.memory.specs.Memory.{lent};
 ghost use Rattle.registers.specs.Registers.{registers};
@@ -25,7 +27,7 @@ use registers::{CORE, PC};
 use system::instructions::execute_system;
 
 // An instruction that is done and leaves ICR, SYSCON and PSW.PRS as they are, or the ending of any other.
-#[derive(Drop)]
+#[derive(Clone, Copy)]
 pub enum Executed {
     Steady,
     Ended(Ending),

@@ -4,7 +4,7 @@ ghost use Rattle.std.specs.Prelude.{◌≡◌, ◌+◌, ◌<◌, ◌^◌};
 ghost use Rattle.fields.specs.Depth.{counter_bits, counter_of, counts, overflows_up, underflows_down, nested, called_of};
 
 // The counter and its value above all ones.
-#[derive(Drop)]
+#[derive(Clone, Copy)]
 struct Counter {
     count: u32,
     above: u32,

@@ -1,5 +1,7 @@
 // The fields of the core registers, each named once with its bits.
 
+#![tactic(auto)]
+
 pub mod depth;
 pub mod icr;
 pub mod link;

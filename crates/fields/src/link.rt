@@ -4,7 +4,7 @@ ghost use Rattle.std.specs.Prelude.{◌≡◌};
 ghost use Rattle.fields.specs.Link.{link_of};
 
 // It counts areas of 64 bytes, not bytes.
-#[derive(Drop)]
+#[derive(Clone, Copy)]
 pub struct Link(pub u32);
 
 // The link in a word, bits 19:0: the one place where a word becomes a link.

@@ -16,7 +16,7 @@ use memory::word_at;
 use operations::{Access, Operation, access_of, decode, operation_number};
 
 // An instruction with its fields, and the address after it.
-#[derive(Drop)]
+#[derive(Clone, Copy)]
 pub struct Instruction {
     pub op: Operation,
     pub c: usize,
@@ -26,21 +26,21 @@ pub struct Instruction {
     pub next: u32,
 }
 
-#[derive(Drop)]
+#[derive(Clone, Copy)]
 pub enum Fetched {
     Found(Instruction),
     Nothing,
 }
 
 // The records of a body from one on: how many they are, and the byte of the image at which the first one stands.
-#[derive(Drop)]
+#[derive(Clone, Copy)]
 pub struct Rest {
     pub records: u32,
     pub at: usize,
 }
 
 // The same with the place of the body's entry in the table.
-#[derive(Drop)]
+#[derive(Clone, Copy)]
 pub struct InBody {
     pub rest: Rest,
     pub entry: u32,
@@ -62,7 +62,7 @@ pub fn read_record(image: &[u8], at: usize, next: u32) -> Instruction
 }
 
 // Of an instruction what says which data it accesses.
-#[derive(Drop)]
+#[derive(Clone, Copy)]
 pub struct Operand {
     pub access: Access,
     pub a: usize,
@@ -151,7 +151,7 @@ pub fn rest_long(image: &[u8], pc: u32) -> Rest
 }
 
 // A record of a body to walk from: its index, and the address at which it begins.
-#[derive(Drop)]
+#[derive(Clone, Copy)]
 pub struct Start {
     pub index: u32,
     pub address: u32,

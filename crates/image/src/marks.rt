@@ -11,7 +11,7 @@ use crate::table::{Entry, read_entry};
 use memory::word_at;
 
 // Whether an image has no short form; and the logarithm of how many addresses share a mark.
-#[derive(Drop)]
+#[derive(Clone, Copy)]
 pub struct Guide {
     pub long: bool,
     pub shift: u32,

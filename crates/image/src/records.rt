@@ -13,7 +13,7 @@ use memory::word_at;
 use operations::{is_compare, is_operation};
 
 // Rules 2 and 3: the entry at fault, or the record at fault by its index over all bodies.
-#[derive(Drop)]
+#[derive(Clone, Copy)]
 pub enum ImageCheck {
     Holds,
     Table(u32),
@@ -33,7 +33,7 @@ fn word_fits(w: u32) -> bool
 }
 
 // What a pass over all records finds: that each holds, and whether none is a short form.
-#[derive(Drop)]
+#[derive(Clone, Copy)]
 struct Scan {
     hold: bool,
     long: bool,
@@ -83,7 +83,7 @@ fn scan_all(image: &[u8]) -> Scan
 }
 
 // The rules' answer, and whether the image has no short form.
-#[derive(Drop)]
+#[derive(Clone, Copy)]
 pub struct ImageScan {
     pub check: ImageCheck,
     pub long: bool,

@@ -8,7 +8,7 @@ ghost use Rattle.words.specs.Exactly.{Exactly};
 use crate::lengths::address_after;
 use memory::word_at;
 
-#[derive(Drop)]
+#[derive(Clone, Copy)]
 pub struct Entry {
     pub load: u32,
     pub records: u32,
@@ -16,7 +16,7 @@ pub struct Entry {
 }
 
 // Rule 2, with the entry at fault: entries count from 1, and 0 is the count or a table cut short.
-#[derive(Drop)]
+#[derive(Clone, Copy)]
 pub enum TableCheck {
     Holds,
     Fault(u32),

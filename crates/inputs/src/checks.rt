@@ -149,7 +149,7 @@ fn try_lists<'a>(
 }
 
 // A verdict, and of an image that is accepted whether it has no short form.
-#[derive(Drop)]
+#[derive(Clone, Copy)]
 pub struct Tried {
     pub verdict: Verdict,
     pub long: bool,

@@ -4,7 +4,7 @@ ghost use Rattle.std.specs.Prelude.{◌≡◌};
 ghost use Rattle.inputs.specs.Verdict.{number_of, fault_of};
 
 // The rule at fault: the entry of a table, counted from 1 (0 for the count), the index of a record over all bodies.
-#[derive(Drop)]
+#[derive(Clone, Copy)]
 pub enum Refusal {
     Window,
     Overlap,
@@ -15,7 +15,7 @@ pub enum Refusal {
     MetAgain,
 }
 
-#[derive(Drop)]
+#[derive(Clone, Copy)]
 pub enum Verdict {
     Accepted,
     Refused(Refusal),

@@ -1,5 +1,7 @@
 // The checks of the inputs and the fetch for the tests: exported functions on numbers and byte slices.
 
+#![tactic(auto)]
+
 ghost use Rattle.std.specs.Prelude.{◌≡◌};
 ghost use Rattle.memory.specs.Address.{as_address};
 ghost use Rattle.memory.specs.Memory.{lent};

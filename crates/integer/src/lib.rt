@@ -1,5 +1,7 @@
 // The integer operations of the image, 1 to 38 (document 01), with PSW.
 
+#![tactic(auto)]
+
 ghost use Rattle.std.specs.Prelude.{◌≡◌};
 ghost use Rattle.integer.specs.Integer.{compute_of, flagged, carried, plain};
 
@@ -10,7 +12,7 @@ use fields::psw;
 use words::result::{Carried, Flagged};
 
 // The operations in document 01's order.
-#[derive(Drop)]
+#[derive(Clone, Copy)]
 pub enum Integer {
     Add,
     Sub,
@@ -53,7 +55,7 @@ pub enum Integer {
 }
 
 // The word that goes to D[c], and PSW afterwards.
-#[derive(Drop)]
+#[derive(Clone, Copy)]
 pub struct Computed {
     pub word: u32,
     pub psw: u32,

@@ -1,5 +1,7 @@
 // The integer operations for the tests: one exported function on numbers.
 
+#![tactic(auto)]
+
 ghost use Rattle.std.specs.Prelude.{◌≡◌};
 ghost use Rattle.integer_export.specs.Export.{packed_of, export_of};
 

@@ -1,11 +1,13 @@
 // The interrupt sources (002, chapter 5): which one is taken first, and when.
 
+#![tactic(auto)]
+
 ghost use Rattle.std.specs.Prelude.{◌≡◌};
 ghost use Rattle.words.specs.Exactly.{Exactly};
 ghost use Rattle.interrupts.specs.Sources.{better_of, best_of, takes, cleared_at, Highest};
 
 // The enabled requesting source of the highest priority number, with that number; 16 and 0 for none.
-#[derive(Drop)]
+#[derive(Clone, Copy)]
 pub struct Best {
     pub source: u8,
     pub level: u8,

@@ -1,5 +1,7 @@
 // The jumps and LOOP.
 
+#![tactic(auto)]
+
 ghost use Rattle.std.specs.Prelude.{◌≡◌, true, ◌<◌};
 ghost use Rattle.registers.specs.Registers.{registers};
 ghost use Rattle.operations.specs.Operations.{jump_compares};

@@ -1,5 +1,7 @@
 // The lists of context save areas and their check: each link lies in one of the two windows, and no area is met a second time.
 
+#![tactic(auto)]
+
 ghost use Rattle.std.specs.Prelude.{◌≡◌, ◌++◌, ◌≤◌, length};
 ghost use Rattle.memory.specs.Memory.{lent};
 ghost use Rattle.lists.specs.Walk.{list_walk, walked, lists_of};
@@ -12,7 +14,7 @@ use fields::link::{Link, link_of};
 use memory::address::Address;
 
 // What a list comes to.
-#[derive(Drop)]
+#[derive(Clone, Copy)]
 pub enum ListEnd {
     // link 0 ends it
     Whole,

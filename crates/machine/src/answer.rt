@@ -9,7 +9,7 @@ use permits::Permits;
 use registers::Registers;
 
 // A step's event, or why it was not made. Of a run: its last step's.
-#[derive(Drop)]
+#[derive(Clone, Copy)]
 pub enum Outcome {
     Made(Event),
     Stopped(Stop),

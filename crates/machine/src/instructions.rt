@@ -19,7 +19,7 @@ use spans::index::place_at;
 use spans::{Ahead, Span, look_ahead};
 
 // How some steps ended, and how many are left to make.
-#[derive(Drop)]
+#[derive(Clone, Copy)]
 pub struct Paced {
     pub ending: Ending,
     pub left: u32,

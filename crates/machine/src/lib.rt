@@ -1,5 +1,7 @@
 // The machine: a step, and a run of steps.
 
+#![tactic(auto)]
+
 pub mod answer;
 mod guided;
 mod instructions;

@@ -35,7 +35,7 @@ fn first_source(sources: &[u32; 16], icr: u32, n: u32) -> Best
 }
 
 // How a run ended, and the steps made.
-#[derive(Drop)]
+#[derive(Clone, Copy)]
 pub struct Went {
     pub ending: Ending,
     pub made: u32,

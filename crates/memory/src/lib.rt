@@ -1,5 +1,7 @@
 // Addresses, and words in lent memory, little-endian.
 
+#![tactic(auto)]
+
 pub mod address;
 
 ghost use Rattle.std.specs.Prelude.{◌≡◌, ◌+◌, ◌*◌, ◌≤◌, ◌<◌, length, get_or};

@@ -1,5 +1,7 @@
 // The instructions that write one register: the integer operations, and the moves and the arithmetic of address registers.
 
+#![tactic(auto)]
+
 ghost use Rattle.std.specs.Prelude.{◌≡◌, ◌<◌};
 ghost use Rattle.registers.specs.Registers.{registers};
 ghost use Rattle.image.specs.Fetch.{FieldsHold};

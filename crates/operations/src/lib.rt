@@ -1,5 +1,7 @@
 // The operations of an image's records: document 01's 79, by group.
 
+#![tactic(auto)]
+
 ghost use Rattle.std.specs.Prelude.{◌≡◌, length, ltb};
 ghost use Rattle.operations.specs.Forms.{operation_number};
 ghost use Rattle.operations.specs.Operations.{operations, operation_of, access_of, compares};
@@ -7,7 +9,7 @@ ghost use Rattle.operations.specs.Operations.{operations, operation_of, access_o
 use integer::Integer;
 
 // The moves and the arithmetic of address registers.
-#[derive(Drop)]
+#[derive(Clone, Copy)]
 pub enum Move {
     MovA,
     MovD,
@@ -17,7 +19,7 @@ pub enum Move {
 }
 
 // The loads.
-#[derive(Drop)]
+#[derive(Clone, Copy)]
 pub enum Load {
     LdB,
     LdBu,
@@ -28,7 +30,7 @@ pub enum Load {
 }
 
 // The stores.
-#[derive(Drop)]
+#[derive(Clone, Copy)]
 pub enum Store {
     StB,
     StH,
@@ -37,7 +39,7 @@ pub enum Store {
 }
 
 // The jumps.
-#[derive(Drop)]
+#[derive(Clone, Copy)]
 pub enum Jump {
     J,
     Jl,
@@ -52,7 +54,7 @@ pub enum Jump {
 }
 
 // The operations on contexts.
-#[derive(Drop)]
+#[derive(Clone, Copy)]
 pub enum Context {
     Call,
     Calli,
@@ -65,7 +67,7 @@ pub enum Context {
 }
 
 // The system operations.
-#[derive(Drop)]
+#[derive(Clone, Copy)]
 pub enum System {
     Enable,
     Disable,
@@ -76,7 +78,7 @@ pub enum System {
     Rstv,
 }
 
-#[derive(Drop)]
+#[derive(Clone, Copy)]
 pub enum Operation {
     Nop,
     Integer(Integer),
@@ -183,7 +185,7 @@ pub fn decode(byte: u8) -> Operation
 }
 
 // What an operation does with data memory.
-#[derive(Drop)]
+#[derive(Clone, Copy)]
 pub enum Access {
     Nothing,
     Read,

@@ -1,5 +1,7 @@
 // The ranges that permit a step's fetch and its data access: of set PRS the lowest.
 
+#![tactic(auto)]
+
 ghost use Rattle.std.specs.Prelude.{◌≡◌, true, ◌+◌, ◌≤◌, length, get_or};
 ghost use Rattle.words.specs.Exactly.{Exactly};
 ghost use Rattle.protection.specs.Range.{ranges_in};
@@ -21,7 +23,7 @@ use protection::range::{Permit, Right};
 use registers::{CORE, ICR, PC, SYSCON};
 
 // The ranges named for a step's fetch and for its data access.
-#[derive(Drop)]
+#[derive(Clone, Copy)]
 pub struct Permits {
     pub fetch: Permit,
     pub data: Permit,

@@ -1,5 +1,7 @@
 // The pool walk: reads an image from standard input and prints its walk.
 
+#![tactic(auto)]
+
 use libc::{STDIN_FILENO, STDOUT_FILENO};
 use walk::blocks::{begin, go_on};
 use walk::start::{image_in, input_buffer};

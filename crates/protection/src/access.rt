@@ -9,7 +9,7 @@ use events::trap::{MPP, MPR, MPW, MPX, Trap};
 use memory::address::Address;
 use registers::{CORE, PSW, SYSCON};
 
-#[derive(Drop)]
+#[derive(Clone, Copy)]
 pub enum Check {
     Passes,
     Fails(Trap),

@@ -7,14 +7,14 @@ ghost use Rattle.protection.specs.Range.{range_at, ranges_in, enables, permits, 
 use memory::address::Address;
 
 // lower <= address < upper, with the mode's bits: RE 6 and WE 7 of a data range, XE 7 of a code range.
-#[derive(Drop)]
+#[derive(Clone, Copy)]
 pub struct Range {
     pub lower: u32,
     pub upper: u32,
     pub mode: u32,
 }
 
-#[derive(Drop)]
+#[derive(Clone, Copy)]
 pub enum Right {
     Read,
     Write,
@@ -22,7 +22,7 @@ pub enum Right {
 }
 
 // The range that permits an access, by its number. None is named where none permits it, or none was asked.
-#[derive(Drop)]
+#[derive(Clone, Copy)]
 pub enum Permit {
     Unnamed,
     By(usize),

@@ -1,5 +1,7 @@
 // The core record of a host: 154 little-endian words. D0 to D15, A0 to A15, the ten core registers, the request words of the 16 sources, and the 32 ranges of three words each.
 
+#![tactic(auto)]
+
 ghost use Rattle.std.specs.Prelude.{◌≡◌, ◌+◌, ◌≤◌, length};
 ghost use Rattle.memory.specs.Word.{words_at, put_words};
 ghost use Rattle.records.specs.CoreRecord.{registers_in, requests_in, ranges_of, stored_in};

@@ -1,5 +1,7 @@
 // The registers of the core (002, chapter 3).
 
+#![tactic(auto)]
+
 ghost use Rattle.std.specs.Prelude.{◌≡◌, ◌≤◌};
 ghost use Rattle.registers.specs.Core.{places};
 ghost use Rattle.registers.specs.Registers.{second_of, plus_of, minus_of, new_pc, is_global, guards};

@@ -1,5 +1,7 @@
 // The start, with demand 3: what is accepted here has its lists follow the abstract ones over any series of calls.
 
+#![tactic(auto)]
+
 ghost use Rattle.std.specs.Prelude.{◌≡◌};
 ghost use Rattle.memory.specs.Memory.{lent};
 ghost use Rattle.registers.specs.Registers.{pc, fcx, pcxi};

@@ -1,5 +1,7 @@
 // The records at PC and after it that a run goes through without asking the table and the ranges again.
 
+#![tactic(auto)]
+
 pub mod index;
 
 ghost use Rattle.std.specs.Prelude.{◌≡◌, ◌<◌, ◌≤◌};
@@ -21,7 +23,7 @@ use protection::range::{Permit, Right, search};
 use registers::{CORE, PC, PSW, SYSCON};
 
 // So many records from an address on, from a byte of the image to another, and how many of them are known to be long: all or none. Where none is, also the body's entry, from 1, the index of the span's first record in the body, and what the body's marks stand by.
-#[derive(Drop)]
+#[derive(Clone, Copy)]
 pub struct Span {
     pub from: u32,
     pub records: u32,
@@ -34,7 +36,7 @@ pub struct Span {
 }
 
 // What lies at PC: records, or the fetch's trap.
-#[derive(Drop)]
+#[derive(Clone, Copy)]
 pub enum Ahead {
     Records(Span),
     Traps(Trap),

@@ -5,7 +5,7 @@ ghost use Rattle.system.specs.CoreRegisters.{named_of, Known, core_at, written_o
 
 use registers::{BIV, BTV, CORE, FCX, ICR, ISP, LCX, PC, PCXI, PSW, SYSCON};
 
-#[derive(Drop)]
+#[derive(Clone, Copy)]
 pub enum Named {
     Pc,
     // any other, by its index

@@ -1,4 +1,6 @@
 // The system instructions.
 
+#![tactic(auto)]
+
 pub mod core_registers;
 pub mod instructions;

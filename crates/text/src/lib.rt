@@ -1,5 +1,7 @@
 // Numbers as text, in ASCII.
 
+#![tactic(auto)]
+
 ghost use Rattle.std.specs.Prelude.{◌≡◌};
 ghost use Rattle.text.specs.Hex.{glyph_of, hex_of};
 

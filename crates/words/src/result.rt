@@ -11,7 +11,7 @@ pub const LEAST: i64 = -0x8000_0000;
 pub const LARGEST: i64 = 0x7FFF_FFFF;
 
 // A result word with V and AV.
-#[derive(Drop)]
+#[derive(Clone, Copy)]
 pub struct Flagged {
     pub word: u32,
     pub v: bool,
@@ -19,7 +19,7 @@ pub struct Flagged {
 }
 
 // The same with C.
-#[derive(Drop)]
+#[derive(Clone, Copy)]
 pub struct Carried {
     pub word: u32,
     pub c: bool,
