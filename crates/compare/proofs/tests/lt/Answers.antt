@@ -1,0 +1,5 @@
+use borrow.Author.Rules.{rules}
+use Rattle.compare.proofs.tests.lt.Goals as goal
+
+pub returns : goal.returns
+returns c = rw c.less.ensures

@@ -1,7 +1,0 @@
--- `compare::tests::lt_u` meets its contract. Assumes nothing.
-use borrow.Author.Rules.{rules}
-use Rattle.compare.proofs.tests.lt_u.Statement.{statement}
-use Rattle.compare.proofs.tests.lt_u.Tie as tie
-
-pub lt-u-spec : {M : Type 1} → statement M
-lt-u-spec = tie.close (tie.spec (λ c κs. search rules) (λ c. search rules) (λ c. rw c.less-u.ensures))
