@@ -2,7 +2,7 @@
 -- Assumes nothing.
 use Prim.Native.Nat.{ℕ, ◌+◌, ◌/◌, ◌%◌, ◌^◌, ◌≤◌}
 use mathlib.Core.Path.{◌≡◌, refl, sym, ◌∙◌}
-use mathlib.Core.Bool.{Bool, true, false, ◌||◌, or_true}
+use mathlib.Core.Bool.{Bool, true, false, ◌||◌, or-true}
 use mathlib.Core.Logic.{◌⊎◌, inl, inr, ⊎_elim}
 use native.Mathlib.Omega.{arith}
 use lib.ListN.{length}
@@ -55,7 +55,7 @@ module _ (base : Address) (len : ℕ) where
   right_second : (len ≡ 0) ⊎ WindowRight base len → second_holds base len ≡ true
   unfolding second_holds
   right_second (inl e) = rw (eq-eqb len 0 e)
-  right_second (inr r) = rw (right_window r, or_true)
+  right_second (inr r) = rw (right_window r, or-true)
 
   pub second_most : second_holds base len ≡ true → len ≤ 0x1_0000
   second_most h = ⊎_elim (λ e. omega arith) (λ r. r.most) (second_right h)
@@ -77,8 +77,8 @@ module _ (base : Address) (len : ℕ) (base2 : Address) (len2 : ℕ) where
   right_apart : WindowsApart base len base2 len2 → apart_holds base len base2 len2 ≡ true
   unfolding apart_holds
   right_apart (inl e) = rw (eq-eqb len2 0 e)
-  right_apart (inr (inl x)) = rw (le-leb (base.0 + len) base2.0 x, or_true)
-  right_apart (inr (inr x)) = rw (le-leb (base2.0 + len2) base.0 x, or_true)
+  right_apart (inr (inl x)) = rw (le-leb (base.0 + len) base2.0 x, or-true)
+  right_apart (inr (inr x)) = rw (le-leb (base2.0 + len2) base.0 x, or-true)
 
   -- the verdict on the windows
   pub data WindowsCome (v : Verdict) : Type 0 where

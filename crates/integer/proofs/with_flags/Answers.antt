@@ -1,0 +1,5 @@
+use borrow.Author.Rules.{rules}
+use Rattle.integer.proofs.with_flags.Goals as goal
+
+pub returns : goal.returns
+returns c = rw c.with_flags.ensures

@@ -1,0 +1,13 @@
+use borrow.Author.Rules.{rules}
+use Prim.Native.Nat.{ℕ, ◌-◌, ◌≤◌}
+use mathlib.Core.Path.{◌≡◌, refl, subst, ◌∙◌}
+use Rattle.interrupts.specs.Sources.{best_below}
+use Rattle.interrupts.proofs.Sources.{turn, best_is}
+use native.Mathlib.Omega.{arith}
+use Rattle.interrupts.proofs.best_source.Given as goal
+
+abbrev pub invariant-loop-i : goal.invariant-loop-i
+invariant-loop-i l = (l.i ≤ 16) × (l.b ≡ best_below l.i l.sources)
+
+abbrev pub decreases-loop-i : goal.decreases-loop-i
+decreases-loop-i l = 16 - l.i
