@@ -1,0 +1,32 @@
+use borrow.Author.Rules.{rules}
+use mathlib.Core.Path.{refl}
+use native.Mathlib.Omega.{arith}
+use Rattle.areas.proofs.Parts.{first_link, second_link}
+use Rattle.areas.proofs.area.write_link.Goals as goal
+
+pub overflow_add-k : goal.overflow_add-k
+overflow_add-k c = let h = rw c.in-First.is at c.requires in omega arith
+
+pub slice_bounds-put_word-end : goal.slice_bounds-put_word-end
+slice_bounds-put_word-end c = rw c.in-First.is at c.requires
+
+pub returns-in-First : goal.returns-in-First
+returns-in-First c =
+    let p = c in
+    let e = c.in-First.is in
+    record { window2_after = first_link p.args.window.now p.args.window2.now _ p.args.at _ e (rw e at p.requires) _ c.put_word.ensures; window_len_unchanged = search rules }
+
+pub overflow_add-k-in-Second : goal.overflow_add-k-in-Second
+overflow_add-k-in-Second c = let h = rw c.in-Second.is at c.requires in omega arith
+
+pub slice_bounds-put_word-end-in-Second : goal.slice_bounds-put_word-end-in-Second
+slice_bounds-put_word-end-in-Second c = rw c.in-Second.is at c.requires
+
+pub returns-in-Second : goal.returns-in-Second
+returns-in-Second c =
+    let p = c in
+    let e = c.in-Second.is in
+    record { window2_after = second_link p.args.window.now p.args.window2.now _ p.args.at _ e (rw e at p.requires) _ c.put_word-in-Second.ensures; window_len_unchanged = refl }
+
+pub returns-in-Neither : goal.returns-in-Neither
+returns-in-Neither c = absurd (rw c.in-Neither.is at c.requires)

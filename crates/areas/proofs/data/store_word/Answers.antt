@@ -1,0 +1,21 @@
+use borrow.Author.Rules.{rules}
+use mathlib.Core.Path.{refl, ap, ◌∙◌}
+use mathlib.Core.List.{List, ◌++◌}
+use Prim.Native.Nat.{ℕ}
+use Rattle.areas.proofs.Accesses.{first_store_word, second_store_word}
+use Rattle.areas.proofs.data.store_word.Goals as goal
+
+pub put_word-requires : goal.put_word-requires
+put_word-requires c = rw c.in-First.is at c.requires
+
+pub put_word-requires-in-Second : goal.put_word-requires-in-Second
+put_word-requires-in-Second c = rw c.in-Second.is at c.requires
+
+pub returns-in-First : goal.returns-in-First
+returns-in-First c = record { window2_after = ap (λ (x : List ℕ). x ++ c.args.window2.now) c.put_word.ensures ∙ first_store_word c.args.window.now c.args.window2.now c.args.at _ c.in-First.is (rw c.in-First.is at c.requires) _; window_len_unchanged = search rules }
+
+pub returns-in-Second : goal.returns-in-Second
+returns-in-Second c = record { window2_after = ap (λ (x : List ℕ). c.args.window.now ++ x) c.put_word-in-Second.ensures ∙ second_store_word c.args.window.now c.args.window2.now c.args.at _ c.in-Second.is _; window_len_unchanged = refl }
+
+pub returns-in-Neither : goal.returns-in-Neither
+returns-in-Neither c = absurd (rw c.in-Neither.is at c.requires)

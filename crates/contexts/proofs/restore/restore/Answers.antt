@@ -1,0 +1,23 @@
+use borrow.Author.Rules.{rules}
+use mathlib.Core.Path.{sym, ap, ◌∙◌}
+use Rattle.areas.specs.declared.link.Place.TheVariants as place
+use Rattle.areas.proofs.Places.{spot_at_place}
+use Rattle.contexts.specs.Restore.{return_of}
+use Rattle.contexts.proofs.Returns.{return_made}
+use Rattle.contexts.proofs.restore.restore.Goals as goal
+
+pub load-requires : goal.load-requires
+load-requires c =
+    let p = rw c.link_of-link.ensures at (sym c.locate.ensures ∙ c.in-At.is) in
+    let r = spot_at_place c.args.window.now c.args.window2.now c.args.base c.args.base2 _ _ (rw c.link_of-link.ensures at c.spot_of-at.ensures) _ p in
+    record { lies_in = r.0; core_value = p ∙ ap place.At (sym r.1) }
+
+pub returns-in-Outside : goal.returns-in-Outside
+unfolding return_of
+returns-in-Outside c = rw (sym (rw c.link_of-link.ensures at c.locate.ensures) ∙ c.in-Outside.is)
+
+pub returns-in-At : goal.returns-in-At
+returns-in-At c =
+    let p = rw c.link_of-link.ensures at (sym c.locate.ensures ∙ c.in-At.is) in
+    let r = spot_at_place c.args.window.now c.args.window2.now c.args.base c.args.base2 _ _ (rw c.link_of-link.ensures at c.spot_of-at.ensures) _ p in
+    return_made _ _ c.args.window.now c.args.window2.now _ _ _ c.spot_of-at.result p r.1 _ _ _ c.load.ensures.window2_after c.load.ensures.window_len_unchanged
