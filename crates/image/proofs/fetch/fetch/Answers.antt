@@ -1,0 +1,47 @@
+use Rattle.std.proofs.Common.{◌<◌, sym, ap, ◌∙◌, subst, arith, rules}
+use Rattle.image.specs.Rest.{rest_of}
+use Rattle.image.specs.Fetch.{FetchSays}
+use Rattle.image.specs.declared.fetch.Fetched.TheVariants.{Found}
+use Rattle.image.proofs.Images.{image_right}
+use Rattle.image.proofs.Marking.{no_marks}
+use Rattle.image.proofs.Fetches.{rest_bounds, first_fields, fetch_none, fetch_first, fetch_says}
+use Rattle.image.proofs.fetch.fetch.Goals as goal
+
+pub slice_bounds-rest_at-end : goal.slice_bounds-rest_at-end
+slice_bounds-rest_at-end c = search rules
+
+pub rest_at-found-requires : goal.rest_at-found-requires
+rest_at-found-requires c = (c.requires, no_marks _ 1)
+
+pub returns-then-rest-eq0 : goal.returns-then-rest-eq0
+returns-then-rest-eq0 c =
+    let img = c.args.image.now in
+    let pc = c.args.pc in
+    let e = fetch_none img pc (rw c.rest_at-found.ensures.0 at c.if-rest-eq0.true) in
+    (e, tt, subst (FetchSays img pc) (sym e) (fetch_says img pc))
+
+pub next_after-requires : goal.next_after-requires
+next_after-requires c =
+    let img = c.args.image.now in
+    let pc = c.args.pc in
+    let e = c.rest_at-found.ensures.0 in
+    let n : 0 < (rest_of img pc).records = rw e at (let l : 0 < c.rest_at-found.result.rest.records = omega (arith, c.if-rest-eq0.false) in l) in
+    rw e (let b = rest_bounds img (image_right img c.requires) pc n in omega (arith, b.inside))
+
+pub read_record-requires : goal.read_record-requires
+read_record-requires c =
+    let img = c.args.image.now in
+    let pc = c.args.pc in
+    let e = c.rest_at-found.ensures.0 in
+    let n : 0 < (rest_of img pc).records = rw e at (let l : 0 < c.rest_at-found.result.rest.records = omega (arith, c.if-rest-eq0.false) in l) in
+    rw e (let b = rest_bounds img (image_right img c.requires) pc n in omega (arith, b.inside))
+
+pub returns : goal.returns
+returns c =
+    let img = c.args.image.now in
+    let pc = c.args.pc in
+    let e = c.rest_at-found.ensures.0 in
+    let n : 0 < (rest_of img pc).records = rw e at (let l : 0 < c.rest_at-found.result.rest.records = omega (arith, c.if-rest-eq0.false) in l) in
+    let f = rw e at (c.read_record.ensures pc c.next_after.ensures) in
+    let is = ap Found f ∙ fetch_first img pc n in
+    (is, rw f (first_fields img (image_right img c.requires) pc n pc), subst (FetchSays img pc) (sym is) (fetch_says img pc))

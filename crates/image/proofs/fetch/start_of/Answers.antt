@@ -1,0 +1,59 @@
+use Rattle.std.proofs.Common.{sym, ◌∙◌, arith, rules}
+use Rattle.image.proofs.Images.{image_right}
+use Rattle.image.proofs.Marking.{first_begins, start_marked, start_past, start_other, start_unmarked}
+use Rattle.image.proofs.fetch.start_of.Goals as goal
+
+pub bias_of-requires : goal.bias_of-requires
+bias_of-requires c = search rules
+
+pub overflow_add-i : goal.overflow_add-i
+overflow_add-i c =
+    let p = c.requires in
+    omega (arith, (image_right c.args.image.now p.0).table.counted.most, p.2)
+
+pub slot_of-slot-requires : goal.slot_of-slot-requires
+slot_of-slot-requires c = search rules
+
+pub offset_bounds-marks-slot : goal.offset_bounds-marks-slot
+offset_bounds-marks-slot c = search rules
+
+pub bounds-marks-slot : goal.bounds-marks-slot
+bounds-marks-slot c = search rules
+
+pub mark_entry-requires : goal.mark_entry-requires
+mark_entry-requires c = search rules
+
+pub overflow_add-i-then-slot-marks : goal.overflow_add-i-then-slot-marks
+overflow_add-i-then-slot-marks c =
+    let p = c.requires in
+    omega (arith, (image_right c.args.image.now p.0).table.counted.most, p.2)
+
+pub mark_address-requires : goal.mark_address-requires
+mark_address-requires c = search rules
+
+pub mark_index-requires : goal.mark_index-requires
+mark_index-requires c = search rules
+
+pub mark_address-requires-then-mark_address-pc : goal.mark_address-requires-then-mark_address-pc
+mark_address-requires-then-mark_address-pc c = search rules
+
+pub returns-then-mark_address-pc : goal.returns-then-mark_address-pc
+returns-then-mark_address-pc c =
+    let p = c.requires in
+    let m = p.1.each _ c.if-slot-marks.true _ (sym c.mark_entry.ensures ∙ c.if-mark_entry-i.true) in
+    (rw (c.mark_address-then-mark_address-pc.ensures, c.mark_index.ensures) (start_marked _ _ _ _ _ _ (rw c.bias_of.ensures at c.slot_of-slot.ensures) (sym c.mark_entry.ensures ∙ c.if-mark_entry-i.true) (rw (← c.mark_address.ensures) c.if-mark_address-pc.true)), rw (c.mark_address-then-mark_address-pc.ensures, c.mark_index.ensures) m, rw (c.mark_address-then-mark_address-pc.ensures, ← c.mark_address.ensures) c.if-mark_address-pc.true)
+
+pub returns-else-mark_address-pc : goal.returns-else-mark_address-pc
+returns-else-mark_address-pc c =
+    let p = c.requires in
+    (start_past _ _ _ _ _ _ (rw c.bias_of.ensures at c.slot_of-slot.ensures) (rw (← c.mark_address.ensures) c.if-mark_address-pc.false), first_begins _ (image_right c.args.image.now p.0) _ p.2 _ p.3, p.4)
+
+pub returns-else-mark_entry-i : goal.returns-else-mark_entry-i
+returns-else-mark_entry-i c =
+    let p = c.requires in
+    (start_other _ _ _ _ _ _ (rw c.bias_of.ensures at c.slot_of-slot.ensures) (λ f. c.if-mark_entry-i.false (c.mark_entry.ensures ∙ f)), first_begins _ (image_right c.args.image.now p.0) _ p.2 _ p.3, p.4)
+
+pub returns-else-slot-marks : goal.returns-else-slot-marks
+returns-else-slot-marks c =
+    let p = c.requires in
+    (start_unmarked _ _ _ _ _ _ (rw c.bias_of.ensures at c.slot_of-slot.ensures) c.if-slot-marks.false, first_begins _ (image_right c.args.image.now p.0) _ p.2 _ p.3, p.4)

@@ -1,0 +1,12 @@
+use Rattle.std.proofs.Common.{◌≡◌, ◌+◌, ◌-◌, ◌*◌, ◌≤◌, sym, ◌∙◌, arith, rules}
+use Rattle.image.specs.Lengths.{address_after}
+use Rattle.image.specs.Rest.{body_walk}
+use Rattle.image.proofs.Addresses.{after_none, after_less, after_plus}
+use Rattle.image.proofs.Walks.{walk_before, walk_start, turn_found, turn_on, turn_end}
+use Rattle.image.proofs.fetch.walk_body.Given as goal
+
+abbrev pub invariant-loop-k : goal.invariant-loop-k
+invariant-loop-k l = (l.k ≤ l.n) × (l.here ≡ address_after l.k l.image l.at l.from) × (body_walk (l.n - l.k) l.image (l.at + 8 * l.k) l.here l.pc ≡ body_walk l.n l.image l.at l.from l.pc)
+
+abbrev pub decreases-loop-k : goal.decreases-loop-k
+decreases-loop-k l = l.n - l.k

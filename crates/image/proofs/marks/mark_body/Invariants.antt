@@ -1,0 +1,13 @@
+use Rattle.std.proofs.Common.{◌≡◌, ◌+◌, ◌-◌, ◌≤◌, sym, ◌∙◌, arith, rules}
+use Rattle.image.specs.Lengths.{address_after}
+use Rattle.image.specs.Marks.{body_marks, Marked}
+use Rattle.image.proofs.Addresses.{after_none, after_plus, after_less}
+use Rattle.image.proofs.Images.{image_right}
+use Rattle.image.proofs.Marking.{body_none, body_more, whole, begins_there}
+use Rattle.image.proofs.marks.mark_body.Given as goal
+
+abbrev pub invariant-loop-k : goal.invariant-loop-k
+invariant-loop-k l = (l.k ≤ l.e.records) × (l.here ≡ address_after l.k l.image l.e.offset l.e.load) × Marked l.image l.marks × (l.marks ≡ body_marks l.k l.image l.shift l.i l.initial.marks)
+
+abbrev pub decreases-loop-k : goal.decreases-loop-k
+decreases-loop-k l = l.e.records - l.k

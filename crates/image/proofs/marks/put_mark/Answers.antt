@@ -1,0 +1,43 @@
+use Rattle.std.proofs.Common.{sym, ◌∙◌, arith, rules}
+use Rattle.image.proofs.Images.{image_right}
+use Rattle.image.proofs.Marking.{mark_holds, put_marked, put_here, put_had, put_beyond}
+use Rattle.image.proofs.marks.put_mark.Goals as goal
+
+pub offset_bounds-marks-slot : goal.offset_bounds-marks-slot
+offset_bounds-marks-slot c = search rules
+
+pub bounds-marks-slot : goal.bounds-marks-slot
+bounds-marks-slot c = search rules
+
+pub mark_entry-requires : goal.mark_entry-requires
+mark_entry-requires c = search rules
+
+pub overflow_add-i : goal.overflow_add-i
+overflow_add-i c =
+    let p = c.requires in
+    let g = image_right c.args.image.now p.0 in
+    omega (arith, g.table.counted.most, p.1.0)
+
+pub mark-requires : goal.mark-requires
+mark-requires c =
+    let p = c.requires in
+    let g = image_right c.args.image.now p.0 in
+    (omega (arith, g.table.counted.most, p.1.0), omega (arith, (g.table.entries _ p.1.0).most, p.1.1))
+
+pub offset_bounds-marks-slot-then-mark_entry-i : goal.offset_bounds-marks-slot-then-mark_entry-i
+offset_bounds-marks-slot-then-mark_entry-i c = search rules
+
+pub bounds-marks-slot-then-mark_entry-i : goal.bounds-marks-slot-then-mark_entry-i
+bounds-marks-slot-then-mark_entry-i c = search rules
+
+pub returns-then-mark_entry-i : goal.returns-then-mark_entry-i
+returns-then-mark_entry-i c =
+    let p = c.requires in
+    let e = c.mark.ensures in
+    record { marked = put_marked _ _ _ _ p.2 (mark_holds _ _ _ _ _ e.0 e.1 e.2 p.1); marks_after = rw e.3 (put_here _ _ _ _ _ c.if-slot-lt4096.true (λ x. c.if-mark_entry-i.true (c.mark_entry.ensures ∙ x))) }
+
+pub returns-else-mark_entry-i : goal.returns-else-mark_entry-i
+returns-else-mark_entry-i c = record { marked = c.requires.2; marks_after = put_had _ _ _ _ _ c.if-slot-lt4096.true (sym c.mark_entry.ensures ∙ c.if-mark_entry-i.false) }
+
+pub returns-else-slot-lt4096 : goal.returns-else-slot-lt4096
+returns-else-slot-lt4096 c = record { marked = c.requires.2; marks_after = put_beyond _ _ _ _ _ c.if-slot-lt4096.false }

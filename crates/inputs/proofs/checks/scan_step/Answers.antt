@@ -1,0 +1,37 @@
+use mathlib.Core.Path.{◌≡◌, refl}
+use Rattle.memory.specs.Memory.{lent}
+use Rattle.inputs.specs.Checks.{step_verdict}
+use Rattle.inputs.specs.declared.verdict.Verdict.TheVariants.{Refused}
+use Rattle.inputs.proofs.Verdicts.{step_exactly}
+use borrow.Author.Rules.{rules}
+use Rattle.inputs.proofs.checks.scan_step.Goals as goal
+
+pub check_windows-requires : goal.check_windows-requires
+check_windows-requires c = search rules
+
+pub enum_known-r : goal.enum_known-r
+enum_known-r c = search rules
+
+pub enum_told-1 : goal.enum_told-1
+enum_told-1 c = search rules
+
+pub try_code-requires : goal.try_code-requires
+try_code-requires c = search rules
+
+pub returns-in-Refused : goal.returns-in-Refused
+unfolding step_verdict
+returns-in-Refused c =
+    let a = c.args in
+    let m = lent a.base a.window.now a.base2 a.window2.now in
+    let e : Refused c.in-Refused.r ≡ step_verdict m a.image.now a.pc = rw (← c.check_windows.ensures.value.0, c.in-Refused.is) in
+    let x = step_exactly m a.image.now a.pc _ e in
+    record { verdict_value = (x.0, x.1, refl); unchanged = (refl, refl, refl) }
+
+pub returns-in-Accepted : goal.returns-in-Accepted
+unfolding step_verdict
+returns-in-Accepted c =
+    let a = c.args in
+    let m = lent a.base a.window.now a.base2 a.window2.now in
+    let e : c.try_code.result.verdict ≡ step_verdict m a.image.now a.pc = rw (← c.check_windows.ensures.value.0, c.in-Accepted.is) c.try_code.ensures.0 in
+    let x = step_exactly m a.image.now a.pc _ e in
+    record { verdict_value = (x.0, x.1, c.try_code.ensures.1); unchanged = (refl, refl, refl) }
