@@ -15,32 +15,16 @@ use Rattle.registers.specs.declared.Registers.{Registers}
 use Rattle.calls.specs.Saves.{call_of, lower_save_of}
 use Rattle.calls.specs.Instructions.{context_op}
 
-neither : {n a b : ℕ} → (n ≡ a → ⊥) → (n ≡ b → ⊥) → (n ≡ a) ⊎ (n ≡ b) → ⊥
-neither f g (inl e) = f e
-neither f g (inr e) = g e
-
 -- CALL or CALLI
 module _ (i : Instruction) (r : Registers) (to : ℕ) where
-  pub call_told : (op : Context) → (op ≡ Calli → to ≡ A r i.a) → ((op ≡ Calli → ⊥) → to ≡ plus_of (pc r) i.imm) → (tag_of context.the_type op ≡ 0) ⊎ (tag_of context.the_type op ≡ 1) → context_op op i r ≡ call_of to i.next r
+  pub call_told : (op : Context) → (op ≡ Calli → to ≡ A r i.a) → ((op ≡ Calli → ⊥) → to ≡ plus_of (pc r) i.imm) → (op ≡ Call) ⊎ (op ≡ Calli) → context_op op i r ≡ call_of to i.next r
   unfolding context_op
-  call_told Call a p h = rw (p (λ e. let z = ap (tag_of context.the_type) e in omega arith))
-  call_told Calli a p h = rw (a refl)
-  call_told Ret a p h = absurd (neither (λ z. omega arith) (λ z. omega arith) h)
-  call_told Rfe a p h = absurd (neither (λ z. omega arith) (λ z. omega arith) h)
-  call_told Svlcx a p h = absurd (neither (λ z. omega arith) (λ z. omega arith) h)
-  call_told Rslcx a p h = absurd (neither (λ z. omega arith) (λ z. omega arith) h)
-  call_told Bisr a p h = absurd (neither (λ z. omega arith) (λ z. omega arith) h)
-  call_told Syscall a p h = absurd (neither (λ z. omega arith) (λ z. omega arith) h)
+  call_told op a p (inl e) = rw (e, p (λ f. cc))
+  call_told op a p (inr e) = rw (e, a e)
 
 -- SVLCX or BISR
 module _ (i : Instruction) (r : Registers) (b : Bool) where
-  pub lower_told : (op : Context) → (op ≡ Bisr → b ≡ true) → ((op ≡ Bisr → ⊥) → b ≡ false) → (tag_of context.the_type op ≡ 4) ⊎ (tag_of context.the_type op ≡ 6) → context_op op i r ≡ lower_save_of b i.imm i.next r
+  pub lower_told : (op : Context) → (op ≡ Bisr → b ≡ true) → ((op ≡ Bisr → ⊥) → b ≡ false) → (op ≡ Svlcx) ⊎ (op ≡ Bisr) → context_op op i r ≡ lower_save_of b i.imm i.next r
   unfolding context_op lower_save_of
-  lower_told Call t f h = absurd (neither (λ z. omega arith) (λ z. omega arith) h)
-  lower_told Calli t f h = absurd (neither (λ z. omega arith) (λ z. omega arith) h)
-  lower_told Ret t f h = absurd (neither (λ z. omega arith) (λ z. omega arith) h)
-  lower_told Rfe t f h = absurd (neither (λ z. omega arith) (λ z. omega arith) h)
-  lower_told Svlcx t f h = rw (f (λ e. let z = ap (tag_of context.the_type) e in omega arith))
-  lower_told Rslcx t f h = absurd (neither (λ z. omega arith) (λ z. omega arith) h)
-  lower_told Bisr t f h = rw (t refl)
-  lower_told Syscall t f h = absurd (neither (λ z. omega arith) (λ z. omega arith) h)
+  lower_told op t f (inl e) = rw (e, f (λ g. cc))
+  lower_told op t f (inr e) = rw (e, t e)
