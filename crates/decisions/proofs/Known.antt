@@ -6,6 +6,7 @@ use native.Mathlib.Decide.{dec_le}
 use native.Mathlib.Omega.{arith}
 use mathlib.Core.Path.{◌≡◌}
 use mathlib.Core.List.{List, map, ◌++◌}
+use Rattle.std.proofs.lemmas.List.{map-id}
 use lib.ListN.{length, get_or}
 use mir.Syntax.{w8, w32}
 use mir.Val.{Val, Fits}
@@ -23,11 +24,12 @@ use Rattle.decisions.proofs.Owned.{field_each, field_long}
 word : (n : ℕ) (vs : List Val) → Is (UInt w32) n vs → Word n
 word n vs p = p.1
 
-words : (n : ℕ) (xs : List ℕ) (vs : List Val) → Is (Array (UInt w32) n) (map (λ v. v) xs) vs → Words n xs
+words : (n : ℕ) (xs : List ℕ) (vs : List Val) → Is (Array (UInt w32) n) xs vs → Words n xs
 words n xs vs p =
+    let q : Is (Array (UInt w32) n) (map (λ (v : ℕ). v) xs) vs = rw (map-id xs) p in
     record {
-      size = field_long (UInt w32) ℕ (λ v. v) Word word n xs vs p;
-      each = λ k. field_each (UInt w32) ℕ (λ v. v) Word word n xs vs p k 0 (omega arith);
+      size = field_long (UInt w32) ℕ (λ v. v) Word word n xs vs q;
+      each = λ k. field_each (UInt w32) ℕ (λ v. v) Word word n xs vs q k 0 (omega arith);
     }
 
 pub words_of : {r : Registers} {vs : List Val} → Is (row.the_row) r vs → Words 16 r.d × Words 16 r.a × Words 10 r.core

@@ -92,5 +92,5 @@ pub record Marked (img marks : List ℕ) : Type 0 where
 
 -- what a guide and marks say of an image is so
 pub record Guides (img : List ℕ) (guide : Guide) (marks : List ℕ) : Type 0 where
-  pub long_only_lem : guide.long ≡ true → long_only img ≡ true
+  pub all_long : guide.long ≡ true → long_only img ≡ true
   pub marks_hold : MarksHold img marks

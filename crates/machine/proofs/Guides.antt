@@ -11,11 +11,11 @@ use Rattle.inputs.specs.declared.verdict.Verdict.TheVariants.{Accepted}
 
 -- whether it has short forms, and no marks
 pub unmarked : (img : List ℕ) (g : Guide) → (g.long ≡ true → long_only img ≡ true) → Guides img g (replicate 1 0)
-unmarked img g h = record { long_only_lem = h; marks_hold = no_marks img 1 }
+unmarked img g h = record { all_long = h; marks_hold = no_marks img 1 }
 
 -- its marks
 pub marked : (img marks : List ℕ) (g : Guide) → g.long ≡ false → MarksHold img marks → Guides img g marks
-marked img marks g f h = record { long_only_lem = λ e. absurd (never (rw f at (sym e))); marks_hold = h }
+marked img marks g f h = record { all_long = λ e. absurd (never (rw f at (sym e))); marks_hold = h }
 
 -- what the check of an accepted image told
 pub told_long : (img : List ℕ) (v : Verdict) (long : Bool) → long ≡ long_told img v → v ≡ Accepted → long ≡ true → long_only img ≡ true

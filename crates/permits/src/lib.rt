@@ -99,8 +99,8 @@ pub fn permits_of(
 ) -> Permits
     requires { ImageHolds image.now × (long ≡ true → long_only image.now ≡ true) }
     ensures value { result ≡ permits_of image.now a.now core.now requests.now (ranges_in words.now) }
-    ensures exactly { Exactly (NamedFor core.now (ranges_in words.now) (fetch_asked (get_or core.now PC 0) (beginning_of image.now core.now requests.now (ranges_in words.now)))) result.fetch }
-    ensures exactly_2 { Exactly (NamedFor core.now (ranges_in words.now) (data_asked a.now (beginning_of image.now core.now requests.now (ranges_in words.now)))) result.data }
+    ensures fetch { Exactly (NamedFor core.now (ranges_in words.now) (fetch_asked (get_or core.now PC 0) (beginning_of image.now core.now requests.now (ranges_in words.now)))) result.fetch }
+    ensures access { Exactly (NamedFor core.now (ranges_in words.now) (data_asked a.now (beginning_of image.now core.now requests.now (ranges_in words.now)))) result.data }
 {
     if !fields::syscon::protection(core[SYSCON]) {
         return Permits {

@@ -187,7 +187,7 @@ module _ {img : List ℕ} {long : Bool} {s : Span} (y : IsSpan img long s) where
         inside = rw stretch.at_is (omega (arith, b.inside, y.most));
         ends = rw stretch.at_is stretch.ends;
         counted = stretch.counted;
-        each = λ e j l. rw stretch.at_is (rest_long_lem img right (y.long_only_lem e) s.from j any (omega (arith, y.most)));
+        each = λ e j l. rw stretch.at_is (rest_long_lem img right (y.all_long e) s.from j any (omega (arith, y.most)));
         body = stretch.body;
       }
 
@@ -256,7 +256,7 @@ module _ (img core : List ℕ) (rs : List Range) where
     ahead_spans =
         record {
           image = right;
-          long_only_lem = p;
+          all_long = p;
           some = rw counts reaches.some;
           most = rw (counts, from_pc) reaches.within;
           is = is ∙ same;

@@ -59,7 +59,7 @@ begin img s j = address_after j img s.at s.from
 -- a span of an accepted image: the first of the records from an address on
 pub record IsSpan (img : List ℕ) (long : Bool) (s : Span) : Type 0 where
   pub image : ImageHolds img
-  pub long_only_lem : long ≡ true → long_only img ≡ true
+  pub all_long : long ≡ true → long_only img ≡ true
   pub some : 0 < s.records
   pub most : s.records ≤ (rest_of img s.from).records
   pub is : s ≡ span_of img long s.from s.records

@@ -1,7 +1,5 @@
 use borrow.Author.Rules.{rules}
 use mathlib.Core.Path.{sym, ◌∙◌}
-use mathlib.Core.List.{[], ◌∷◌}
-use types.Run.{miss}
 use Rattle.execute.specs.Execute.{finish_of}
 use Rattle.execute.proofs.Arms.{executed_as, told, entered}
 use Rattle.execute.proofs.execute_instruction.Goals as goal
@@ -9,7 +7,7 @@ use Rattle.execute.proofs.execute_instruction.Goals as goal
 pub returns-in_default : goal.returns-in_default
 returns-in_default c =
     let is = c.perform-how.ensures in
-    record { window2_after = c.finish.ensures ∙ executed_as _ _ _ _ is; result_value = entered _ _ _ _ is c.finish.ensures (λ e. miss (1 ∷ 2 ∷ 3 ∷ 4 ∷ 5 ∷ []) 0 tt (rw e at c.in-Done.keys2)) }
+    record { window2_after = c.finish.ensures ∙ executed_as _ _ _ _ is; result_value = entered _ _ _ _ is c.finish.ensures c.in_default.not-Done }
 
 pub returns : goal.returns
 unfolding finish_of

@@ -1,0 +1,55 @@
+use Rattle.std.proofs.Common.{◌<◌, get_or, sym, ap, ◌∙◌, subst, arith, rules}
+use Rattle.protection.specs.Range.{ranges_in}
+use Rattle.spans.specs.Spans.{span_of}
+use Rattle.image.specs.declared.fetch.InBody.{InBody}
+use Rattle.image.proofs.Fetches.{fetch_none}
+use Rattle.spans.proofs.Spans.{fetchable_says, ahead_denied, ahead_nothing, ahead_first}
+use Rattle.spans.proofs.look_ahead.Goals as goal
+
+pub bounds-core-0 : goal.bounds-core-0
+bounds-core-0 c = search rules
+
+pub check_access-requires : goal.check_access-requires
+check_access-requires c = search rules
+
+pub enum_known-t : goal.enum_known-t
+enum_known-t c = search rules
+
+pub enum_told-1 : goal.enum_told-1
+enum_told-1 c = search rules
+
+pub rest_guided-found-requires : goal.rest_guided-found-requires
+rest_guided-found-requires c = search rules
+
+pub returns-then-rest-eq0 : goal.returns-then-rest-eq0
+returns-then-rest-eq0 c =
+    let h = sym c.in-Passes.is ∙ (rw c.as_address.ensures at c.check_access.ensures) in
+    let n = sym (ap (λ (x : InBody). x.rest.records) c.rest_guided-found.ensures) ∙ c.if-rest-eq0.true in
+    ahead_nothing _ _ _ h (fetch_none _ _ n)
+
+pub fetchable-n-requires : goal.fetchable-n-requires
+fetchable-n-requires c = (sym (rw c.as_address.ensures at c.check_access.ensures) ∙ c.in-Passes.is, omega (arith, c.if-rest-eq0.false))
+
+pub span_of-requires : goal.span_of-requires
+span_of-requires c =
+    let a = c.args in
+    let n : 0 < c.rest_guided-found.result.rest.records = omega (arith, c.if-rest-eq0.false) in
+    let w = fetchable_says a.core.now (ranges_in a.words.now) _ _ n (sym (rw c.as_address.ensures at c.check_access.ensures) ∙ c.in-Passes.is) in
+    let l = w.within in
+    (c.requires.0, c.rest_guided-found.ensures, n, omega (arith, c.fetchable-n.ensures))
+
+pub returns-in-Fails : goal.returns-in-Fails
+returns-in-Fails c = let h = sym c.in-Fails.is ∙ (rw c.as_address.ensures at c.check_access.ensures) in ahead_denied _ _ _ _ h
+
+pub returns-else-rest-eq0 : goal.returns-else-rest-eq0
+returns-else-rest-eq0 c =
+    let a = c.args in
+    let p = c.requires in
+    let h = rw c.as_address.ensures at c.check_access.ensures in
+    let t = c.in-Passes.is in
+    let e = c.rest_guided-found.ensures in
+    let n : 0 < c.rest_guided-found.result.rest.records = omega (arith, c.if-rest-eq0.false) in
+    let m = subst (λ (x : InBody). 0 < x.rest.records) e n in
+    let l = rw e at c.fetchable-n.ensures in
+    let s = c.span_of.ensures ∙ ap (span_of a.image.now a.guide.long (get_or a.core.now 0 0)) l in
+    (ahead_first a.image.now a.core.now (ranges_in a.words.now) a.guide.long _ p.0 p.1.all_long (sym h ∙ t) m s, s)
