@@ -1,0 +1,143 @@
+use Rattle.std.proofs.Common.{◌≡◌, length, sym, refl, ◌∙◌, arith, rules}
+use borrow.Author.Tests.{not-false}
+use Rattle.memory.specs.Memory.{lent}
+use Rattle.registers.specs.Registers.{registers}
+use Rattle.protection.specs.Range.{ranges_in}
+use Rattle.spans.proofs.Spans.{ahead_known, place_end, place_in}
+use Rattle.machine.proofs.Turns.{image_holds}
+use Rattle.machine.proofs.Walks.{Goes, walk_first, walk_is, walk_next, goes_first, goes_read, goes_index, goes_place, ends_stopped, ends_made}
+use Rattle.machine.proofs.instructions.steady_steps.Goals as goal
+
+pub next_after-next-requires : goal.next_after-next-requires
+next_after-next-requires c =
+    let p = c.requires in
+    let g = c.args in
+    let s = (ahead_known g.image.now g.core.now (ranges_in g.words.now) g.guide.long g.s (image_holds _ _ _ p.ready.accepted) p.guides.all_long p.lies_ahead).0 in
+    omega (arith, s.lies.inside, s.spans.some)
+
+pub loop-left-init : goal.loop-left-init
+loop-left-init c =
+    let p = c.requires in
+    ((refl, refl), goes_first _ _ _ _ _ _ _ (walk_first _ _ _ _ _ _ _ p.n_nonzero p.ready (ahead_known _ _ _ _ _ (image_holds _ _ _ p.ready.accepted) p.guides.all_long p.lies_ahead)) c.next_after-next.ensures)
+
+pub wrapping_add_u32-next-requires : goal.wrapping_add_u32-next-requires
+wrapping_add_u32-next-requires c = search rules
+
+pub overflow_cast-k : goal.overflow_cast-k
+overflow_cast-k c = search rules
+
+pub overflow_mul-k : goal.overflow_mul-k
+overflow_mul-k c = let g = c.loop-left.invariant.1 in omega (arith, g.stands, g.walk.inside, g.walk.span.lies.inside, c.well_formed.1.1.1.1.0.0)
+
+pub overflow_add-at : goal.overflow_add-at
+overflow_add-at c = let g = c.loop-left.invariant.1 in omega (arith, g.stands, g.walk.inside, g.walk.span.lies.inside, c.well_formed.1.1.1.1.0.0)
+
+pub read_record-i-requires : goal.read_record-i-requires
+read_record-i-requires c = let g = c.loop-left.invariant.1 in omega (arith, g.stands, g.walk.inside, g.walk.span.lies.inside)
+
+pub execute_instruction-done-requires : goal.execute_instruction-done-requires
+execute_instruction-done-requires c =
+    let g = c.loop-left.invariant.1 in
+    let w = g.walk in
+    rw (goes_read _ _ _ _ _ _ _ g c.read_record-i.ensures) (w.span.fields _ w.inside _)
+
+pub ending_of-ending-requires : goal.ending_of-ending-requires
+ending_of-ending-requires c = search rules
+
+pub enum_told-1 : goal.enum_told-1
+enum_told-1 c = search rules
+
+pub enum_told-in_default : goal.enum_told-in_default
+enum_told-in_default c = search rules
+
+pub shape_of-window-in_default : goal.shape_of-window-in_default
+shape_of-window-in_default c = search rules
+
+pub shape_of-window2-in_default : goal.shape_of-window2-in_default
+shape_of-window2-in_default c = search rules
+
+pub returns-in_default : goal.returns-in_default
+returns-in_default c =
+    let g = c.loop-left.invariant.1 in
+    let i = goes_read _ _ _ _ _ _ _ g c.read_record-i.ensures in
+    ends_stopped _ _ _ _ _ g.walk.stands (walk_is _ _ _ _ _ _ _ g.walk i c.execute_instruction-done.ensures.window2_after) _ (sym c.ending_of-ending.ensures) c.in_default.field-0 c.in_default.is
+
+pub overflow_sub-left : goal.overflow_sub-left
+overflow_sub-left c = let w = c.loop-left.invariant.1.walk in omega (arith, w.stands.some)
+
+pub shape_of-window-then-left-eq0 : goal.shape_of-window-then-left-eq0
+shape_of-window-then-left-eq0 c = search rules
+
+pub shape_of-window2-then-left-eq0 : goal.shape_of-window2-then-left-eq0
+shape_of-window2-then-left-eq0 c = search rules
+
+pub returns-then-left-eq0 : goal.returns-then-left-eq0
+returns-then-left-eq0 c =
+    let g = c.loop-left.invariant.1 in
+    let i = goes_read _ _ _ _ _ _ _ g c.read_record-i.ensures in
+    ends_made _ _ _ _ _ g.walk.stands (walk_is _ _ _ _ _ _ _ g.walk i c.execute_instruction-done.ensures.window2_after) _ (sym c.ending_of-ending.ensures) c.in-Made.field-0 c.in-Made.is
+
+pub steady-requires : goal.steady-requires
+steady-requires c = search rules
+
+pub shape_of-window-then-not-steady : goal.shape_of-window-then-not-steady
+shape_of-window-then-not-steady c = search rules
+
+pub shape_of-window2-then-not-steady : goal.shape_of-window2-then-not-steady
+shape_of-window2-then-not-steady c = search rules
+
+pub returns-then-not-steady : goal.returns-then-not-steady
+returns-then-not-steady c =
+    let g = c.loop-left.invariant.1 in
+    let i = goes_read _ _ _ _ _ _ _ g c.read_record-i.ensures in
+    ends_made _ _ _ _ _ g.walk.stands (walk_is _ _ _ _ _ _ _ g.walk i c.execute_instruction-done.ensures.window2_after) _ (sym c.ending_of-ending.ensures) c.in-Made.field-0 c.in-Made.is
+
+pub bounds-core-0 : goal.bounds-core-0
+bounds-core-0 c = search rules
+
+pub index_from-k-requires : goal.index_from-k-requires
+index_from-k-requires c = search rules
+
+pub loop-left-smaller-then-k-s : goal.loop-left-smaller-then-k-s
+loop-left-smaller-then-k-s c = let w = c.loop-left.invariant.1.walk in omega (arith, w.stands.some)
+
+pub loop-left-preserved-then-k-s : goal.loop-left-preserved-then-k-s
+loop-left-preserved-then-k-s c =
+    let g = c.loop-left.invariant.1 in
+    let i = goes_read _ _ _ _ _ _ _ g c.read_record-i.ensures in
+    let v = walk_is _ _ _ _ _ _ _ g.walk i c.execute_instruction-done.ensures.window2_after in (
+      (c.execute_instruction-done.auto.window ∙ c.loop-left.invariant.0.0, c.execute_instruction-done.auto.window2 ∙ c.loop-left.invariant.0.1),
+      goes_index _ _ _ _ _ _ _ g c.if-k-s.true c.index_from-k.ensures.1 (λ l x. walk_next _ _ _ _ _ _ _ g.walk v c.execute_instruction-done.result refl (sym c.steady.ensures ∙ c.if-not-steady.false) c.execute_instruction-done.ensures.result_value (omega (arith, c.if-left-eq0.false)) _ x l) c.wrapping_add_u32-next.ensures.value,
+    )
+
+pub place_at-at-requires : goal.place_at-at-requires
+place_at-at-requires c = let g = c.loop-left.invariant.1 in (g.walk.span.spans, g.by_record, c.requires.guides.marks_hold)
+
+pub shape_of-window-then-s-at : goal.shape_of-window-then-s-at
+shape_of-window-then-s-at c = c.execute_instruction-done.auto.window ∙ c.loop-left.invariant.0.0
+
+pub shape_of-window2-then-s-at : goal.shape_of-window2-then-s-at
+shape_of-window2-then-s-at c = c.execute_instruction-done.auto.window2 ∙ c.loop-left.invariant.0.1
+
+pub returns-then-s-at : goal.returns-then-s-at
+returns-then-s-at c =
+    let g = c.loop-left.invariant.1 in
+    let i = goes_read _ _ _ _ _ _ _ g c.read_record-i.ensures in
+    ends_made _ _ _ _ _ g.walk.stands (walk_is _ _ _ _ _ _ _ g.walk i c.execute_instruction-done.ensures.window2_after) _ (sym c.ending_of-ending.ensures) c.in-Made.field-0 c.in-Made.is
+
+pub next_after-next-requires-in-loop-left : goal.next_after-next-requires-in-loop-left
+next_after-next-requires-in-loop-left c = let g = c.loop-left.invariant.1 in let y = g.walk.span.lies in omega (arith, y.ends, y.inside, c.if-s-at.false)
+
+pub loop-left-smaller : goal.loop-left-smaller
+loop-left-smaller c = let w = c.loop-left.invariant.1.walk in omega (arith, w.stands.some)
+
+pub loop-left-preserved : goal.loop-left-preserved
+loop-left-preserved c =
+    let g = c.loop-left.invariant.1 in
+    let i = goes_read _ _ _ _ _ _ _ g c.read_record-i.ensures in
+    let v = walk_is _ _ _ _ _ _ _ g.walk i c.execute_instruction-done.ensures.window2_after in (
+      (c.execute_instruction-done.auto.window ∙ c.loop-left.invariant.0.0, c.execute_instruction-done.auto.window2 ∙ c.loop-left.invariant.0.1),
+      goes_place _ _ _ _ _ _ _ g.walk.span.lies (place_end c.args.image.now c.args.s c.args.guide g.walk.span.lies c.args.marks.now _ _ _ _ c.place_at-at.ensures) c.if-s-at.false (place_in c.args.image.now c.args.s c.args.guide g.walk.span.lies c.args.marks.now _ _ _ _ c.place_at-at.ensures g.by_record)
+          (λ k l x. walk_next _ _ _ _ _ _ _ g.walk v c.execute_instruction-done.result refl (sym c.steady.ensures ∙ c.if-not-steady.false) c.execute_instruction-done.ensures.result_value (omega (arith, c.if-left-eq0.false)) k x l)
+          c.next_after-next-in-loop-left.ensures,
+    )

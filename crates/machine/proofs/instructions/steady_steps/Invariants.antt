@@ -1,0 +1,16 @@
+use Rattle.std.proofs.Common.{◌≡◌, length, sym, refl, ◌∙◌, arith, rules}
+use borrow.Author.Tests.{not-false}
+use Rattle.memory.specs.Memory.{lent}
+use Rattle.registers.specs.Registers.{registers}
+use Rattle.protection.specs.Range.{ranges_in}
+use Rattle.spans.proofs.Spans.{ahead_known, place_end, place_in}
+use Rattle.machine.proofs.Turns.{image_holds}
+use Rattle.machine.proofs.Walks.{Goes, walk_first, walk_is, walk_next, goes_first, goes_read, goes_index, goes_place, ends_stopped, ends_made}
+use Rattle.machine.proofs.instructions.steady_steps.Given as goal
+
+abbrev pub invariant-loop-left : goal.invariant-loop-left
+invariant-loop-left l = ((length l.window ≡ length l.initial.window) × (length l.window2 ≡ length l.initial.window2))
+    × Goes l.n l.image (ranges_in l.words) (registers l.initial.d l.initial.a l.initial.core) (lent l.base l.initial.window l.base2 l.initial.window2) l.guide.long l.s l.left l.at l.k l.next l.after (registers l.d l.a l.core) (lent l.base l.window l.base2 l.window2)
+
+abbrev pub decreases-loop-left : goal.decreases-loop-left
+decreases-loop-left l = l.left
