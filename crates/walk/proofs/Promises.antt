@@ -2,6 +2,7 @@
 -- Assumes nothing.
 use Prim.Native.Nat.{ℕ, ◌^◌, ◌≤◌, ◌<◌}
 use native.Mathlib.Nat.{zero-add}
+use Rattle.std.proofs.lemmas.List.{map-id}
 use mathlib.Core.Path.{◌≡◌, ◌∙◌}
 use mathlib.Core.Bool.{Bool, true, false}
 use mathlib.Core.List.{List}
@@ -102,4 +103,4 @@ byte : (v : ℕ) (us : List Val) → Is (UInt w8) v us → v < 2 ^ 8
 byte v us p = p.1
 
 pub window_long : (w : Walk) {vs : List Val} → Is (row.the_row) w vs → length w.window ≡ 4096
-window_long w p = field_long (UInt w8) ℕ (λ v. v) (λ (v : ℕ). v < 2 ^ 8) byte 4096 w.window p.0.0 p.1.1.0
+window_long w p = field_long (UInt w8) ℕ (λ v. v) (λ (v : ℕ). v < 2 ^ 8) byte 4096 w.window p.0.0 (rw (map-id w.window) p.1.1.0)

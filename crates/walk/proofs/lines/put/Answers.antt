@@ -1,0 +1,17 @@
+use Prim.Native.Nat.{◌-◌}
+use lib.ListN.{length}
+use Rattle.walk.proofs.Texts.{Copied, copied_none, copied_more, copied_all}
+use native.Mathlib.Omega.{arith}
+use Rattle.walk.proofs.lines.put.Goals as goal
+
+pub loop-i-preserved : goal.loop-i-preserved
+loop-i-preserved c = copied_more _ _ _ _ _ c.loop-i-test.true c.loop-i.invariant
+
+pub returns : goal.returns
+returns c = copied_all _ _ _ _ _ c.requires c.loop-i-test.false c.loop-i.invariant
+
+pub loop-i-init : goal.loop-i-init
+loop-i-init c = copied_none _ _ _
+
+pub shape_of-out : goal.shape_of-out
+shape_of-out c = c.loop-i.invariant.size
