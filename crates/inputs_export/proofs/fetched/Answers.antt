@@ -1,0 +1,64 @@
+use Rattle.std.proofs.Common.{refl, arith, rules}
+use Rattle.image.specs.Fetch.{Bounded, FetchSays}
+use Rattle.image.specs.declared.fetch.Fetched.TheVariants.{Found, Nothing}
+use Rattle.inputs_export.proofs.Covers.{covers_few, distance_is}
+use Rattle.inputs_export.proofs.fetched.Goals as goal
+
+pub fetch-requires : goal.fetch-requires
+fetch-requires c = search rules
+
+pub enum_told-1 : goal.enum_told-1
+enum_told-1 c = search rules
+
+pub enum_known-i : goal.enum_known-i
+enum_known-i c = search rules
+
+pub overflow_cast-result : goal.overflow_cast-result
+overflow_cast-result c = search rules
+
+pub overflow_mul-result : goal.overflow_mul-result
+overflow_mul-result c = search rules
+
+pub overflow_mul-result-in-Found : goal.overflow_mul-result-in-Found
+overflow_mul-result-in-Found c = let b : Bounded (Found c.in-Found.i) = rw c.in-Found.is at c.fetch.ensures.1 in omega arith
+
+pub overflow_add-result : goal.overflow_add-result
+overflow_add-result c = let b : Bounded (Found c.in-Found.i) = rw c.in-Found.is at c.fetch.ensures.1 in omega arith
+
+pub overflow_mul-result-in-Found-2 : goal.overflow_mul-result-in-Found-2
+overflow_mul-result-in-Found-2 c = let b : Bounded (Found c.in-Found.i) = rw c.in-Found.is at c.fetch.ensures.1 in omega arith
+
+pub overflow_add-result-in-Found : goal.overflow_add-result-in-Found
+overflow_add-result-in-Found c = let b : Bounded (Found c.in-Found.i) = rw c.in-Found.is at c.fetch.ensures.1 in omega arith
+
+pub overflow_mul-result-in-Found-3 : goal.overflow_mul-result-in-Found-3
+overflow_mul-result-in-Found-3 c = let b : Bounded (Found c.in-Found.i) = rw c.in-Found.is at c.fetch.ensures.1 in omega arith
+
+pub overflow_add-result-in-Found-2 : goal.overflow_add-result-in-Found-2
+overflow_add-result-in-Found-2 c = let b : Bounded (Found c.in-Found.i) = rw c.in-Found.is at c.fetch.ensures.1 in omega arith
+
+pub wrapping_sub_u32-requires : goal.wrapping_sub_u32-requires
+wrapping_sub_u32-requires c = search rules
+
+pub overflow_cast-result-in-Found : goal.overflow_cast-result-in-Found
+overflow_cast-result-in-Found c = search rules
+
+pub overflow_add-result-in-Found-3 : goal.overflow_add-result-in-Found-3
+overflow_add-result-in-Found-3 c =
+    let r = c.in-Found.i in
+    let b : Bounded (Found r) = rw c.in-Found.is at c.fetch.ensures.1 in
+    let s : FetchSays c.args.image.now c.args.pc (Found r) = rw c.in-Found.is at c.fetch.ensures.2 in
+    let d = distance_is c.args.pc r.next c.wrapping_sub_u32.result (omega arith) (omega arith) (omega arith) c.wrapping_sub_u32.ensures.value in
+    omega (arith, d, covers_few c.args.image.now c.args.pc r s (omega arith))
+
+pub returns-in-Nothing : goal.returns-in-Nothing
+returns-in-Nothing c =
+    let e = c.fetch.ensures in
+    (rw (← e.0, c.in-Nothing.is), record { fetched = Nothing; number = refl; says = rw c.in-Nothing.is at e.2 })
+
+pub returns-in-Found : goal.returns-in-Found
+returns-in-Found c =
+    let e = c.fetch.ensures in
+    let i = c.in-Found.i in
+    let d = distance_is c.args.pc i.next c.wrapping_sub_u32.result (omega arith) (omega arith) (omega arith) c.wrapping_sub_u32.ensures.value in
+    (rw (← e.0, c.in-Found.is, d), record { fetched = Found i; number = rw d; says = rw c.in-Found.is at e.2 })
