@@ -46,8 +46,8 @@ pub fn next_link<'a>(
 // Writes the sixteen words of an area, upward. The area is lent in place.
 pub fn write_area(window: &mut [u8], window2: &mut [u8], at: Spot, words: [u32; 16])
     requires { LiesIn (length window.old) (length window2.old) 64 at }
-    ensures window2_after { window.new ++ window2.new ≡ put_words (window.old ++ window2.old) (offset (length window.old) at) words 16 }
-    ensures window_len_unchanged { length window.new ≡ length window.old }
+    ensures written { window.new ++ window2.new ≡ put_words (window.old ++ window2.old) (offset (length window.old) at) words 16 }
+    ensures length_kept { length window.new ≡ length window.old }
 {
     match at {
         Spot::First(k) => put_words(&mut window[k..k + 64], 0, &words, 16),
@@ -59,8 +59,8 @@ pub fn write_area(window: &mut [u8], window2: &mut [u8], at: Spot, words: [u32; 
 // Writes the first word of an area, its link word. The area is lent in place.
 pub fn write_link(window: &mut [u8], window2: &mut [u8], at: Spot, word: u32)
     requires { LiesIn (length window.old) (length window2.old) 64 at }
-    ensures window2_after { window.new ++ window2.new ≡ put_word (window.old ++ window2.old) (offset (length window.old) at) word }
-    ensures window_len_unchanged { length window.new ≡ length window.old }
+    ensures written { window.new ++ window2.new ≡ put_word (window.old ++ window2.old) (offset (length window.old) at) word }
+    ensures length_kept { length window.new ≡ length window.old }
 {
     match at {
         Spot::First(k) => put_word(&mut window[k..k + 64], 0, word),

@@ -46,8 +46,8 @@ pub fn load_byte(window: &[u8], window2: &[u8], at: Spot) -> u32
 // Writes the word w at a spot.
 pub fn store_word(window: &mut [u8], window2: &mut [u8], at: Spot, w: u32)
     requires { LiesIn (length window.old) (length window2.old) 4 at }
-    ensures window2_after { window.new ++ window2.new ≡ put_word (window.old ++ window2.old) (offset (length window.old) at) w }
-    ensures window_len_unchanged { length window.new ≡ length window.old }
+    ensures written { window.new ++ window2.new ≡ put_word (window.old ++ window2.old) (offset (length window.old) at) w }
+    ensures length_kept { length window.new ≡ length window.old }
 {
     match at {
         Spot::First(k) => put_word(window, k, w),
@@ -59,8 +59,8 @@ pub fn store_word(window: &mut [u8], window2: &mut [u8], at: Spot, w: u32)
 // Writes the low halfword of w at a spot.
 pub fn store_half(window: &mut [u8], window2: &mut [u8], at: Spot, w: u32)
     requires { LiesIn (length window.old) (length window2.old) 2 at }
-    ensures window2_after { window.new ++ window2.new ≡ put_half (window.old ++ window2.old) (offset (length window.old) at) w }
-    ensures window_len_unchanged { length window.new ≡ length window.old }
+    ensures written { window.new ++ window2.new ≡ put_half (window.old ++ window2.old) (offset (length window.old) at) w }
+    ensures length_kept { length window.new ≡ length window.old }
 {
     match at {
         Spot::First(k) => put_half(window, k, w),
@@ -72,8 +72,8 @@ pub fn store_half(window: &mut [u8], window2: &mut [u8], at: Spot, w: u32)
 // Writes the low byte of w at a spot.
 pub fn store_byte(window: &mut [u8], window2: &mut [u8], at: Spot, w: u32)
     requires { LiesIn (length window.old) (length window2.old) 1 at }
-    ensures window2_after { window.new ++ window2.new ≡ put_byte (window.old ++ window2.old) (offset (length window.old) at) w }
-    ensures window_len_unchanged { length window.new ≡ length window.old }
+    ensures written { window.new ++ window2.new ≡ put_byte (window.old ++ window2.old) (offset (length window.old) at) w }
+    ensures length_kept { length window.new ≡ length window.old }
 {
     match at {
         Spot::First(k) => put_byte(window, k, w),

@@ -35,10 +35,10 @@ fn load_upper(
     core: &mut [u32; CORE],
     at: Spot,
 )
-    requires lies_in { LiesIn (length window.old) (length window2.old) 64 at }
-    requires core_value { place_of (lent base window.old base2 window2.old) (link_of (get_or core.old PCXI 0)) ≡ place.At (offset (length window.old) at) }
-    ensures window2_after { loaded (registers d.new a.new core.new) (window.new ++ window2.new) ≡ loaded_of Half.Upper (offset (length window.old) at) (registers d.old a.old core.old) (window.old ++ window2.old) }
-    ensures window_len_unchanged { length window.new ≡ length window.old }
+    requires lies { LiesIn (length window.old) (length window2.old) 64 at }
+    requires found { place_of (lent base window.old base2 window2.old) (link_of (get_or core.old PCXI 0)) ≡ place.At (offset (length window.old) at) }
+    ensures loaded { loaded (registers d.new a.new core.new) (window.new ++ window2.new) ≡ loaded_of Half.Upper (offset (length window.old) at) (registers d.old a.old core.old) (window.old ++ window2.old) }
+    ensures length_kept { length window.new ≡ length window.old }
 {
     let l = link_of(core[PCXI]);
     let bytes = area(base, window, base2, window2, l);
@@ -63,10 +63,10 @@ fn load_lower(
     core: &mut [u32; CORE],
     at: Spot,
 )
-    requires lies_in { LiesIn (length window.old) (length window2.old) 64 at }
-    requires core_value { place_of (lent base window.old base2 window2.old) (link_of (get_or core.old PCXI 0)) ≡ place.At (offset (length window.old) at) }
-    ensures window2_after { loaded (registers d.new a.new core.new) (window.new ++ window2.new) ≡ loaded_of Half.Lower (offset (length window.old) at) (registers d.old a.old core.old) (window.old ++ window2.old) }
-    ensures window_len_unchanged { length window.new ≡ length window.old }
+    requires lies { LiesIn (length window.old) (length window2.old) 64 at }
+    requires found { place_of (lent base window.old base2 window2.old) (link_of (get_or core.old PCXI 0)) ≡ place.At (offset (length window.old) at) }
+    ensures loaded { loaded (registers d.new a.new core.new) (window.new ++ window2.new) ≡ loaded_of Half.Lower (offset (length window.old) at) (registers d.old a.old core.old) (window.old ++ window2.old) }
+    ensures length_kept { length window.new ≡ length window.old }
 {
     let l = link_of(core[PCXI]);
     let bytes = area(base, window, base2, window2, l);
@@ -90,10 +90,10 @@ fn load(
     at: Spot,
     half: Half,
 )
-    requires lies_in { LiesIn (length window.old) (length window2.old) 64 at }
-    requires core_value { place_of (lent base window.old base2 window2.old) (link_of (get_or core.old PCXI 0)) ≡ place.At (offset (length window.old) at) }
-    ensures window2_after { loaded (registers d.new a.new core.new) (window.new ++ window2.new) ≡ loaded_of half (offset (length window.old) at) (registers d.old a.old core.old) (window.old ++ window2.old) }
-    ensures window_len_unchanged { length window.new ≡ length window.old }
+    requires lies { LiesIn (length window.old) (length window2.old) 64 at }
+    requires found { place_of (lent base window.old base2 window2.old) (link_of (get_or core.old PCXI 0)) ≡ place.At (offset (length window.old) at) }
+    ensures loaded { loaded (registers d.new a.new core.new) (window.new ++ window2.new) ≡ loaded_of half (offset (length window.old) at) (registers d.old a.old core.old) (window.old ++ window2.old) }
+    ensures length_kept { length window.new ≡ length window.old }
 {
     match half {
         Half::Upper => load_upper(base, window, base2, window2, d, a, core, at),

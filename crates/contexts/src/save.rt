@@ -87,8 +87,8 @@ pub fn take(
     next: Link,
 )
     requires { LiesIn (length window.old) (length window2.old) 64 at }
-    ensures window2_after { taken core.new (window.new ++ window2.new) ≡ taken (heads_of half next core.old) (put_words (window.old ++ window2.old) (offset (length window.old) at) words 16) }
-    ensures window_len_unchanged { length window.new ≡ length window.old }
+    ensures taken { taken core.new (window.new ++ window2.new) ≡ taken (heads_of half next core.old) (put_words (window.old ++ window2.old) (offset (length window.old) at) words 16) }
+    ensures length_kept { length window.new ≡ length window.old }
 {
     write_area(window, window2, at, words);
     core[PCXI] = fields::pcxi::saved(core[ICR], ul(half), link_of(core[FCX]));

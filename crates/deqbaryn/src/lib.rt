@@ -34,10 +34,10 @@ pub extern "C" fn deqbaryn_start<'a>(
     window2: &'a [u8],
     image: &[u8],
 ) -> u64
-    ensures value { result ≡ start_answer core.now (lent (as_address base) window.now (as_address base2) window2.now) image.now }
+    ensures answer { result ≡ start_answer core.now (lent (as_address base) window.now (as_address base2) window2.now) image.now }
     ensures start_tells { StartTells core.now (lent (as_address base) window.now (as_address base2) window2.now) image.now result }
     ensures accepted_follows { AcceptedFollows core.now (lent (as_address base) window.now (as_address base2) window2.now) result }
-    ensures unchanged { (core.now ≡ core.now) × (window.now ≡ window.now) × (window2.now ≡ window2.now) × (image.now ≡ image.now) }
+    ensures unchanged { (core.exit.now ≡ core.entry.now) × (window.exit.now ≡ window.entry.now) × (window2.exit.now ≡ window2.entry.now) × (image.exit.now ≡ image.entry.now) }
 {
     if core.len() != 616 {
         return wrong_length();
@@ -81,7 +81,7 @@ pub extern "C" fn deqbaryn_step(
     window2: &mut [u8],
     image: &[u8],
 ) -> u64
-    ensures window2_after { called result core.new (lent (as_address base) window.new (as_address base2) window2.new) ≡ step_call core.old (lent (as_address base) window.old (as_address base2) window2.old) image.now }
+    ensures called { called result core.new (lent (as_address base) window.new (as_address base2) window2.new) ≡ step_call core.old (lent (as_address base) window.old (as_address base2) window2.old) image.now }
     ensures step_tells { StepTells core.old (lent (as_address base) window.old (as_address base2) window2.old) image.now }
     ensures step_holds { StepHolds core.old (lent (as_address base) window.old (as_address base2) window2.old) image.now core.new }
 {
@@ -112,7 +112,7 @@ pub extern "C" fn deqbaryn_run(
     image: &[u8],
     n: u32,
 ) -> u64
-    ensures window2_after { called result core.new (lent (as_address base) window.new (as_address base2) window2.new) ≡ run_call n core.old (lent (as_address base) window.old (as_address base2) window2.old) image.now }
+    ensures called { called result core.new (lent (as_address base) window.new (as_address base2) window2.new) ≡ run_call n core.old (lent (as_address base) window.old (as_address base2) window2.old) image.now }
     ensures run_tells { RunTells n core.old (lent (as_address base) window.old (as_address base2) window2.old) image.now }
     ensures run_holds { RunHolds n core.old (lent (as_address base) window.old (as_address base2) window2.old) image.now core.new }
     ensures unmade_keeps { UnmadeKeeps n core.old (lent (as_address base) window.old (as_address base2) window2.old) image.now core.new (lent (as_address base) window.new (as_address base2) window2.new) }

@@ -128,8 +128,8 @@ pub fn execute_instruction(
     i: Instruction,
 ) -> Executed
     requires { FieldsHold i }
-    ensures window2_after { made (ending_of result) (registers d.new a.new core.new) (lent base window.new base2 window2.new) ≡ execute_of i (registers d.old a.old core.old) (ranges_in ranges.now) (lent base window.old base2 window2.old) }
-    ensures result_value { is_steady result ≡ stays_steady (ending_of result) (registers d.old a.old core.old) (registers d.new a.new core.new) }
+    ensures performed { made (ending_of result) (registers d.new a.new core.new) (lent base window.new base2 window2.new) ≡ execute_of i (registers d.old a.old core.old) (ranges_in ranges.now) (lent base window.old base2 window2.old) }
+    ensures steady { is_steady result ≡ stays_steady (ending_of result) (registers d.old a.old core.old) (registers d.new a.new core.new) }
 {
     let how = perform(base, window, base2, window2, d, a, core, ranges, i);
     let How::Done = how else {

@@ -76,7 +76,7 @@ fn shift_for(bytes: usize) -> u32
 fn put_mark(image: &[u8], marks: &mut [u64; 4096], slot: usize, i: u32, k: u32, address: u32)
     requires { ImageHolds image.now × Begins image.now address i k × Marked image.now marks.old }
     ensures marked { Marked image.now marks.new }
-    ensures marks_after { marks.new ≡ put_mark marks.old slot i k address }
+    ensures written { marks.new ≡ put_mark marks.old slot i k address }
 {
     if slot < 4096 {
         if mark_entry(marks[slot]) != i + 1 {
@@ -89,7 +89,7 @@ fn put_mark(image: &[u8], marks: &mut [u64; 4096], slot: usize, i: u32, k: u32, 
 fn mark_body(image: &[u8], marks: &mut [u64; 4096], shift: u32, i: u32)
     requires { ImageHolds image.now × (i < entries_of image.now) × Marked image.now marks.old }
     ensures marked { Marked image.now marks.new }
-    ensures marks_after { marks.new ≡ body_marks (entry_at image.now i).records image.now shift i marks.old }
+    ensures written { marks.new ≡ body_marks (entry_at image.now i).records image.now shift i marks.old }
 {
     let e = read_entry(image, i as usize);
     let at = e.offset as usize;
@@ -107,7 +107,7 @@ fn mark_body(image: &[u8], marks: &mut [u64; 4096], shift: u32, i: u32)
 pub fn mark_image(image: &[u8], marks: &mut [u64; 4096]) -> u32
     requires { ImageHolds image.now × Marked image.now marks.old }
     ensures marked { Marked image.now marks.new }
-    ensures value { (result ≡ shift_of (length image.now)) × (marks.new ≡ image_marks (entries_of image.now) image.now result marks.old) }
+    ensures whole { (result ≡ shift_of (length image.now)) × (marks.new ≡ image_marks (entries_of image.now) image.now result marks.old) }
 {
     let n = word_at(image, 0);
     let shift = shift_for(image.len());

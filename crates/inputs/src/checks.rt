@@ -77,8 +77,8 @@ fn try_windows(base: Address, len: usize, base2: Address, len2: usize) -> Verdic
 
 // Rules 1 and 13.
 pub fn check_windows(base: Address, window: &[u8], base2: Address, window2: &[u8]) -> Verdict
-    ensures value { (result ≡ window_verdict (lent base window.now base2 window2.now)) × Exactly (WindowsSay (lent base window.now base2 window2.now)) result }
-    ensures unchanged { (window.now ≡ window.now) × (window2.now ≡ window2.now) }
+    ensures verdict { (result ≡ window_verdict (lent base window.now base2 window2.now)) × Exactly (WindowsSay (lent base window.now base2 window2.now)) result }
+    ensures unchanged { (window.exit.now ≡ window.entry.now) × (window2.exit.now ≡ window2.entry.now) }
 {
     try_windows(base, window.len(), base2, window2.len())
 }
@@ -96,8 +96,8 @@ fn image_said(check: ImageCheck) -> Verdict
 
 // Rules 2 and 3.
 pub fn check_image(image: &[u8]) -> Verdict
-    ensures value { (result ≡ image_verdict image.now) × Exactly (ContentsSay image.now) result }
-    ensures unchanged { image.now ≡ image.now }
+    ensures verdict { (result ≡ image_verdict image.now) × Exactly (ContentsSay image.now) result }
+    ensures unchanged { image.exit.now ≡ image.entry.now }
 {
     image_said(image::records::check_image(image))
 }
@@ -121,8 +121,8 @@ pub fn check_lists<'a>(
     fcx: u32,
     pcxi: u32,
 ) -> Verdict
-    ensures value { (result ≡ lists_verdict (lent base window.now base2 window2.now) fcx pcxi) × Exactly (ListsSay (lent base window.now base2 window2.now) fcx pcxi) result }
-    ensures unchanged { (window.now ≡ window.now) × (window2.now ≡ window2.now) }
+    ensures verdict { (result ≡ lists_verdict (lent base window.now base2 window2.now) fcx pcxi) × Exactly (ListsSay (lent base window.now base2 window2.now) fcx pcxi) result }
+    ensures unchanged { (window.exit.now ≡ window.entry.now) × (window2.exit.now ≡ window2.entry.now) }
 {
     match check_windows(base, window, base2, window2) {
         Verdict::Refused(r) => Verdict::Refused(r),
@@ -195,8 +195,8 @@ pub fn scan_step(
     image: &[u8],
     pc: u32,
 ) -> Tried
-    ensures verdict_value { (result.verdict ≡ step_verdict (lent base window.now base2 window2.now) image.now pc) × Exactly (StepSays (lent base window.now base2 window2.now) image.now pc) result.verdict × (result.long ≡ long_told image.now result.verdict) }
-    ensures unchanged { (window.now ≡ window.now) × (window2.now ≡ window2.now) × (image.now ≡ image.now) }
+    ensures verdict { (result.verdict ≡ step_verdict (lent base window.now base2 window2.now) image.now pc) × Exactly (StepSays (lent base window.now base2 window2.now) image.now pc) result.verdict × (result.long ≡ long_told image.now result.verdict) }
+    ensures unchanged { (window.exit.now ≡ window.entry.now) × (window2.exit.now ≡ window2.entry.now) × (image.exit.now ≡ image.entry.now) }
 {
     match check_windows(base, window, base2, window2) {
         Verdict::Refused(r) => Tried {
@@ -215,8 +215,8 @@ pub fn try_step(
     image: &[u8],
     pc: u32,
 ) -> Verdict
-    ensures value { (result ≡ step_verdict (lent base window.now base2 window2.now) image.now pc) × Exactly (StepSays (lent base window.now base2 window2.now) image.now pc) result }
-    ensures unchanged { (window.now ≡ window.now) × (window2.now ≡ window2.now) × (image.now ≡ image.now) }
+    ensures verdict { (result ≡ step_verdict (lent base window.now base2 window2.now) image.now pc) × Exactly (StepSays (lent base window.now base2 window2.now) image.now pc) result }
+    ensures unchanged { (window.exit.now ≡ window.entry.now) × (window2.exit.now ≡ window2.entry.now) × (image.exit.now ≡ image.entry.now) }
 {
     scan_step(base, window, base2, window2, image, pc).verdict
 }
@@ -232,8 +232,8 @@ pub fn try_start<'a>(
     fcx: u32,
     pcxi: u32,
 ) -> Verdict
-    ensures value { (result ≡ start_verdict (lent base window.now base2 window2.now) image.now pc fcx pcxi) × Exactly (StartSays (lent base window.now base2 window2.now) image.now pc fcx pcxi) result }
-    ensures unchanged { (window.now ≡ window.now) × (window2.now ≡ window2.now) × (image.now ≡ image.now) }
+    ensures verdict { (result ≡ start_verdict (lent base window.now base2 window2.now) image.now pc fcx pcxi) × Exactly (StartSays (lent base window.now base2 window2.now) image.now pc fcx pcxi) result }
+    ensures unchanged { (window.exit.now ≡ window.entry.now) × (window2.exit.now ≡ window2.entry.now) × (image.exit.now ≡ image.entry.now) }
 {
     match try_step(base, window, base2, window2, image, pc) {
         Verdict::Refused(r) => Verdict::Refused(r),

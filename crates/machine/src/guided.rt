@@ -74,7 +74,7 @@ pub fn run_guided(
     n: u32,
 ) -> Went
     requires ready { Ready image.now (registers d.old a.old core.old) (lent base window.old base2 window2.old) }
-    requires image_value { long ≡ true → long_only image.now ≡ true }
+    requires all_long { long ≡ true → long_only image.now ≡ true }
     ensures { ran (outcome_of result.ending) result.made (registers d.new a.new core.new) requests.new (lent base window.new base2 window2.new) ≡ run_from n image.now (ranges_in words.now) (outcome.Made event.Instruction) 0 (registers d.old a.old core.old) requests.old (lent base window.old base2 window2.old) }
 {
     if !long {

@@ -34,7 +34,7 @@ fn step_accepted(
     ranges: [Range; 32],
 ) -> Stepped
     requires ready { Ready image.now registers (lent base window.old base2 window2.old) }
-    requires image_value { long ≡ true → long_only image.now ≡ true }
+    requires all_long { long ≡ true → long_only image.now ≡ true }
     ensures { stepped result.outcome result.registers result.requests (lent base window.new base2 window2.new) result.permits ≡ step_of image.now registers requests ranges (lent base window.old base2 window2.old) }
 {
     let words = flat(ranges);
@@ -86,7 +86,7 @@ pub fn step(
     requests: [u32; 16],
     ranges: [Range; 32],
 ) -> Stepped
-    ensures permits_after { stepped result.outcome result.registers result.requests (lent base window.new base2 window2.new) result.permits ≡ step_of image.now registers requests ranges (lent base window.old base2 window2.old) }
+    ensures stepped { stepped result.outcome result.registers result.requests (lent base window.new base2 window2.new) result.permits ≡ step_of image.now registers requests ranges (lent base window.old base2 window2.old) }
     ensures exactly { Exactly (StepSays (lent base window.old base2 window2.old) image.now (pc registers)) (verdict_in result.outcome) }
 {
     let tried = scan_step(base, window, base2, window2, image, registers.core[PC]);
@@ -121,7 +121,7 @@ pub fn run(
     ranges: [Range; 32],
     n: u32,
 ) -> Ran
-    ensures window2_after { ran result.outcome result.made result.registers result.requests (lent base window.new base2 window2.new) ≡ run_of n image.now registers requests ranges (lent base window.old base2 window2.old) }
+    ensures ran { ran result.outcome result.made result.registers result.requests (lent base window.new base2 window2.new) ≡ run_of n image.now registers requests ranges (lent base window.old base2 window2.old) }
     ensures refused_keeps { RefusedKeeps registers requests (lent base window.old base2 window2.old) (ran result.outcome result.made result.registers result.requests (lent base window.new base2 window2.new)) }
     ensures exactly { Exactly (StepSays (lent base window.old base2 window2.old) image.now (pc registers)) (verdict_in result.outcome) }
 {

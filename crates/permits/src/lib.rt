@@ -98,7 +98,7 @@ pub fn permits_of(
     words: &[u32; 96],
 ) -> Permits
     requires { ImageHolds image.now × (long ≡ true → long_only image.now ≡ true) }
-    ensures value { result ≡ permits_of image.now a.now core.now requests.now (ranges_in words.now) }
+    ensures permits { result ≡ permits_of image.now a.now core.now requests.now (ranges_in words.now) }
     ensures fetch { Exactly (NamedFor core.now (ranges_in words.now) (fetch_asked (get_or core.now PC 0) (beginning_of image.now core.now requests.now (ranges_in words.now)))) result.fetch }
     ensures access { Exactly (NamedFor core.now (ranges_in words.now) (data_asked a.now (beginning_of image.now core.now requests.now (ranges_in words.now)))) result.data }
 {

@@ -25,7 +25,7 @@ pub fn start<'a>(
     image: &[u8],
     registers: Registers,
 ) -> Verdict
-    ensures value { (result ≡ start_verdict (lent base window.now base2 window2.now) image.now (pc registers) (fcx registers) (pcxi registers)) × Exactly (StartSays (lent base window.now base2 window2.now) image.now (pc registers) (fcx registers) (pcxi registers)) result }
+    ensures verdict { (result ≡ start_verdict (lent base window.now base2 window2.now) image.now (pc registers) (fcx registers) (pcxi registers)) × Exactly (StartSays (lent base window.now base2 window2.now) image.now (pc registers) (fcx registers) (pcxi registers)) result }
     ensures follows { (result ≡ verdict.Accepted) → Follows (state registers (lent base window.now base2 window2.now)) }
 {
     inputs::checks::try_start(

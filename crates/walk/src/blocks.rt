@@ -40,7 +40,7 @@ fn is_trap(e: Event) -> bool
 
 // The first block: the header, or all that an image of another kind prints.
 pub fn begin(image: &[u8], out: &mut [u8; 65536]) -> Walk
-    ensures out_after { left result out.new ≡ placed (begin_of image.now) out.old }
+    ensures placed { left result out.new ≡ placed (begin_of image.now) out.old }
     ensures part { Part (walk_of image.now) image.now result out.new }
 {
     let window = start_window();
@@ -91,7 +91,7 @@ pub fn begin(image: &[u8], out: &mut [u8; 65536]) -> Walk
 // The next block of a walk that is not over.
 pub fn go_on(image: &[u8], w: Walk, out: &mut [u8; 65536]) -> Walk
     requires { w.over ≡ false }
-    ensures out_after { left result out.new ≡ placed (go_on_of image.now w) out.old }
+    ensures placed { left result out.new ≡ placed (go_on_of image.now w) out.old }
     ensures part { Part (remaining image.now w) image.now result out.new }
     ensures onward { Onward w result }
 {

@@ -9,5 +9,5 @@ use Rattle.series.proofs.start.Goals as goal
 pub returns : goal.returns
 returns c =
     let s : State = state c.args.registers (lent c.args.base c.args.window.now c.args.base2 c.args.window2.now) in
-    let e = c.try_start.ensures.value.0 in
-    record { value = c.try_start.ensures.value; follows = λ a. follows s _ (sym e ∙ a) (valid_of c.well_formed.1.1.1.1.1.0 (start_even s _ (sym e ∙ a))) (joined_bytes c.args.window.now c.args.window2.now (bytes_of c.type_inv.window) (bytes_of c.type_inv.window2)) }
+    let e = c.try_start.ensures.verdict.0 in
+    record { verdict = c.try_start.ensures.verdict; follows = λ a. follows s _ (sym e ∙ a) (valid_of c.well_formed.1.1.1.1.1.0 (start_even s _ (sym e ∙ a))) (joined_bytes c.args.window.now c.args.window2.now (bytes_of c.type_inv.window) (bytes_of c.type_inv.window2)) }

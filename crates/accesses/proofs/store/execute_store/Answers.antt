@@ -26,8 +26,8 @@ returns-in-Traps c = rw (c.in-StB.is, ← c.data_address-address.ensures, ← c.
 pub returns-in-At : goal.returns-in-At
 unfolding store_of
 returns-in-At c =
-    let u = put_at put_byte (c.args.window.now ++ c.args.window2.now) c.store_byte.ensures.window2_after (reach_spot c.args.window.now c.args.window2.now _ _ _ _ _ _ _ _ _ _ _ c.spot_at-at.ensures (sym c.reach_data.ensures ∙ c.in-At.is)).1 in
-    rw (c.in-StB.is, ← c.data_address-address.ensures, ← c.reach_data.ensures, c.in-At.is, ← u, c.store_byte.ensures.window_len_unchanged) (done_did (steady_pc _ _) _)
+    let u = put_at put_byte (c.args.window.now ++ c.args.window2.now) c.store_byte.ensures.written (reach_spot c.args.window.now c.args.window2.now _ _ _ _ _ _ _ _ _ _ _ c.spot_at-at.ensures (sym c.reach_data.ensures ∙ c.in-At.is)).1 in
+    rw (c.in-StB.is, ← c.data_address-address.ensures, ← c.reach_data.ensures, c.in-At.is, ← u, c.store_byte.ensures.length_kept) (done_did (steady_pc _ _) _)
 
 pub returns-in-Traps-reach_data : goal.returns-in-Traps-reach_data
 unfolding store_of
@@ -36,8 +36,8 @@ returns-in-Traps-reach_data c = rw (c.in-StH.is, ← c.data_address-address.ensu
 pub returns-in-At-reach_data : goal.returns-in-At-reach_data
 unfolding store_of
 returns-in-At-reach_data c =
-    let u = put_at put_half (c.args.window.now ++ c.args.window2.now) c.store_half.ensures.window2_after (reach_spot c.args.window.now c.args.window2.now _ _ _ _ _ _ _ _ _ _ _ c.spot_at-at-in-At-reach_data.ensures (sym c.reach_data-in-StH.ensures ∙ c.in-At-reach_data.is)).1 in
-    rw (c.in-StH.is, ← c.data_address-address.ensures, ← c.reach_data-in-StH.ensures, c.in-At-reach_data.is, ← u, c.store_half.ensures.window_len_unchanged) (done_did (steady_pc _ _) _)
+    let u = put_at put_half (c.args.window.now ++ c.args.window2.now) c.store_half.ensures.written (reach_spot c.args.window.now c.args.window2.now _ _ _ _ _ _ _ _ _ _ _ c.spot_at-at-in-At-reach_data.ensures (sym c.reach_data-in-StH.ensures ∙ c.in-At-reach_data.is)).1 in
+    rw (c.in-StH.is, ← c.data_address-address.ensures, ← c.reach_data-in-StH.ensures, c.in-At-reach_data.is, ← u, c.store_half.ensures.length_kept) (done_did (steady_pc _ _) _)
 
 pub returns-in-Traps-reach_data-2 : goal.returns-in-Traps-reach_data-2
 unfolding store_of
@@ -46,8 +46,8 @@ returns-in-Traps-reach_data-2 c = rw (c.in-StW.is, ← c.data_address-address.en
 pub returns-in-At-reach_data-2 : goal.returns-in-At-reach_data-2
 unfolding store_of
 returns-in-At-reach_data-2 c =
-    let u = put_at put_word (c.args.window.now ++ c.args.window2.now) c.store_word.ensures.window2_after (reach_spot c.args.window.now c.args.window2.now _ _ _ _ _ _ _ _ _ _ _ c.spot_at-at-in-At-reach_data-2.ensures (sym c.reach_data-in-StW.ensures ∙ c.in-At-reach_data-2.is)).1 in
-    rw (c.in-StW.is, ← c.data_address-address.ensures, ← c.reach_data-in-StW.ensures, c.in-At-reach_data-2.is, ← u, c.store_word.ensures.window_len_unchanged) (done_did (steady_pc _ _) _)
+    let u = put_at put_word (c.args.window.now ++ c.args.window2.now) c.store_word.ensures.written (reach_spot c.args.window.now c.args.window2.now _ _ _ _ _ _ _ _ _ _ _ c.spot_at-at-in-At-reach_data-2.ensures (sym c.reach_data-in-StW.ensures ∙ c.in-At-reach_data-2.is)).1 in
+    rw (c.in-StW.is, ← c.data_address-address.ensures, ← c.reach_data-in-StW.ensures, c.in-At-reach_data-2.is, ← u, c.store_word.ensures.length_kept) (done_did (steady_pc _ _) _)
 
 pub returns-in-Traps-reach_data-3 : goal.returns-in-Traps-reach_data-3
 unfolding store_of
@@ -56,5 +56,5 @@ returns-in-Traps-reach_data-3 c = rw (c.in-StA.is, ← c.data_address-address.en
 pub returns-in-At-reach_data-3 : goal.returns-in-At-reach_data-3
 unfolding store_of
 returns-in-At-reach_data-3 c =
-    let u = put_at put_word (c.args.window.now ++ c.args.window2.now) c.store_word-in-At-reach_data-3.ensures.window2_after (reach_spot c.args.window.now c.args.window2.now _ _ _ _ _ _ _ _ _ _ _ c.spot_at-at-in-At-reach_data-3.ensures (sym c.reach_data-in-StA.ensures ∙ c.in-At-reach_data-3.is)).1 in
-    rw (c.in-StA.is, ← c.data_address-address.ensures, ← c.reach_data-in-StA.ensures, c.in-At-reach_data-3.is, ← u, c.store_word-in-At-reach_data-3.ensures.window_len_unchanged) (done_did (steady_pc _ _) _)
+    let u = put_at put_word (c.args.window.now ++ c.args.window2.now) c.store_word-in-At-reach_data-3.ensures.written (reach_spot c.args.window.now c.args.window2.now _ _ _ _ _ _ _ _ _ _ _ c.spot_at-at-in-At-reach_data-3.ensures (sym c.reach_data-in-StA.ensures ∙ c.in-At-reach_data-3.is)).1 in
+    rw (c.in-StA.is, ← c.data_address-address.ensures, ← c.reach_data-in-StA.ensures, c.in-At-reach_data-3.is, ← u, c.store_word-in-At-reach_data-3.ensures.length_kept) (done_did (steady_pc _ _) _)

@@ -14,7 +14,7 @@ pub returns-in-First : goal.returns-in-First
 returns-in-First c =
     let p = c in
     let e = c.in-First.is in
-    record { window2_after = first_words p.args.window.now p.args.window2.now _ p.args.at _ e (rw e at p.requires) _ c.put_words.ensures; window_len_unchanged = search rules }
+    record { written = first_words p.args.window.now p.args.window2.now _ p.args.at _ e (rw e at p.requires) _ c.put_words.ensures; length_kept = search rules }
 
 pub overflow_add-k-in-Second : goal.overflow_add-k-in-Second
 overflow_add-k-in-Second c = let h = rw c.in-Second.is at c.requires in omega arith
@@ -26,7 +26,7 @@ pub returns-in-Second : goal.returns-in-Second
 returns-in-Second c =
     let p = c in
     let e = c.in-Second.is in
-    record { window2_after = second_words p.args.window.now p.args.window2.now _ p.args.at _ e (rw e at p.requires) _ c.put_words-in-Second.ensures; window_len_unchanged = refl }
+    record { written = second_words p.args.window.now p.args.window2.now _ p.args.at _ e (rw e at p.requires) _ c.put_words-in-Second.ensures; length_kept = refl }
 
 pub returns-in-Neither : goal.returns-in-Neither
 returns-in-Neither c = absurd (rw c.in-Neither.is at c.requires)

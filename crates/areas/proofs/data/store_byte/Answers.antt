@@ -12,10 +12,10 @@ pub put_byte-requires-in-Second : goal.put_byte-requires-in-Second
 put_byte-requires-in-Second c = rw c.in-Second.is at c.requires
 
 pub returns-in-First : goal.returns-in-First
-returns-in-First c = record { window2_after = ap (λ (x : List ℕ). x ++ c.args.window2.now) c.put_byte.ensures ∙ first_store_byte c.args.window.now c.args.window2.now c.args.at _ c.in-First.is (rw c.in-First.is at c.requires) _; window_len_unchanged = search rules }
+returns-in-First c = record { written = ap (λ (x : List ℕ). x ++ c.args.window2.now) c.put_byte.ensures ∙ first_store_byte c.args.window.now c.args.window2.now c.args.at _ c.in-First.is (rw c.in-First.is at c.requires) _; length_kept = search rules }
 
 pub returns-in-Second : goal.returns-in-Second
-returns-in-Second c = record { window2_after = ap (λ (x : List ℕ). c.args.window.now ++ x) c.put_byte-in-Second.ensures ∙ second_store_byte c.args.window.now c.args.window2.now c.args.at _ c.in-Second.is _; window_len_unchanged = refl }
+returns-in-Second c = record { written = ap (λ (x : List ℕ). c.args.window.now ++ x) c.put_byte-in-Second.ensures ∙ second_store_byte c.args.window.now c.args.window2.now c.args.at _ c.in-Second.is _; length_kept = refl }
 
 pub returns-in-Neither : goal.returns-in-Neither
 returns-in-Neither c = absurd (rw c.in-Neither.is at c.requires)

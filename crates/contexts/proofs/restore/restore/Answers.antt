@@ -10,7 +10,7 @@ pub load-requires : goal.load-requires
 load-requires c =
     let p = rw c.link_of-link.ensures at (sym c.locate.ensures ∙ c.in-At.is) in
     let r = spot_at_place c.args.window.now c.args.window2.now c.args.base c.args.base2 _ _ (rw c.link_of-link.ensures at c.spot_of-at.ensures) _ p in
-    record { lies_in = r.0; core_value = p ∙ ap place.At (sym r.1) }
+    record { lies = r.0; found = p ∙ ap place.At (sym r.1) }
 
 pub returns-in-Outside : goal.returns-in-Outside
 unfolding return_of
@@ -20,4 +20,4 @@ pub returns-in-At : goal.returns-in-At
 returns-in-At c =
     let p = rw c.link_of-link.ensures at (sym c.locate.ensures ∙ c.in-At.is) in
     let r = spot_at_place c.args.window.now c.args.window2.now c.args.base c.args.base2 _ _ (rw c.link_of-link.ensures at c.spot_of-at.ensures) _ p in
-    return_made _ _ c.args.window.now c.args.window2.now _ _ _ c.spot_of-at.result p r.1 _ _ _ c.load.ensures.window2_after c.load.ensures.window_len_unchanged
+    return_made _ _ c.args.window.now c.args.window2.now _ _ _ c.spot_of-at.result p r.1 _ _ _ c.load.ensures.loaded c.load.ensures.length_kept

@@ -21,4 +21,4 @@ pub returns-else-stops : goal.returns-else-stops
 returns-else-stops c =
     save_made c.args.core.now c.args.window.now c.args.window2.now c.args.base c.args.base2 _ (sym (rw c.link_of-l.ensures at c.find.ensures) ∙ c.in-At.is) _ _ _
     (rw c.link_of-l.ensures at c.next_link-next.ensures) _ c.foresee-saved.ensures (sym c.stops.ensures ∙ c.if-stops.false) _
-    (rw c.link_of-l.ensures at c.spot_of-at.ensures) _ _ _ (rw c.upper-words.ensures at c.take.ensures.window2_after) c.take.ensures.window_len_unchanged
+    (rw c.link_of-l.ensures at c.spot_of-at.ensures) _ _ _ (rw c.upper-words.ensures at c.take.ensures.taken) c.take.ensures.length_kept

@@ -19,5 +19,5 @@ pub returns-in-At : goal.returns-in-At
 unfolding fcd_of
 returns-in-At c =
     let t = taken_is c.args.core.now c.args.window.now c.args.window2.now c.args.base c.args.base2 _ (sym (rw c.link_of-l.ensures at c.find.ensures) ∙ c.in-At.is) Upper c.upper-words.result _ (rw c.link_of-l.ensures at c.next_link-next.ensures) c.spot_of-at.result (rw c.link_of-l.ensures at c.spot_of-at.ensures) in
-    let u = c.take.ensures.window2_after ∙ t in
-    rw (← (rw c.link_of-l.ensures at c.find.ensures), c.in-At.is, ← c.upper-words.ensures, ← u, c.take.ensures.window_len_unchanged, ← c.enter_trap.ensures)
+    let u = c.take.ensures.taken ∙ t in
+    rw (← (rw c.link_of-l.ensures at c.find.ensures), c.in-At.is, ← c.upper-words.ensures, ← u, c.take.ensures.length_kept, ← c.enter_trap.ensures)

@@ -72,10 +72,10 @@ pub loop-k-smaller : goal.loop-k-smaller
 loop-k-smaller c = omega (arith, c.loop-k-test.true)
 
 pub loop-k-preserved : goal.loop-k-preserved
-loop-k-preserved c = (omega (arith, c.loop-k-test.true), rw (c.loop-k.invariant.1, c.length_of-here.ensures) (sym (after_plus _ _ _ _)), c.put_mark.ensures.marked, body_more _ _ _ _ c.read_entry-e.result c.read_entry-e.ensures _ _ _ c.loop-k.invariant.1 (rw c.bias_of-bias.ensures at c.slot_of.ensures) _ _ c.loop-k.invariant.3 c.put_mark.ensures.marks_after)
+loop-k-preserved c = (omega (arith, c.loop-k-test.true), rw (c.loop-k.invariant.1, c.length_of-here.ensures) (sym (after_plus _ _ _ _)), c.put_mark.ensures.marked, body_more _ _ _ _ c.read_entry-e.result c.read_entry-e.ensures _ _ _ c.loop-k.invariant.1 (rw c.bias_of-bias.ensures at c.slot_of.ensures) _ _ c.loop-k.invariant.3 c.put_mark.ensures.written)
 
 pub returns : goal.returns
 returns c =
     let l = c.loop-k in
     let z : l.k ≡ c.read_entry-e.result.records = omega (arith, l.invariant.0, c.loop-k-test.false) in
-    record { marked = l.invariant.2; marks_after = l.invariant.3 ∙ rw (z, c.read_entry-e.ensures) }
+    record { marked = l.invariant.2; written = l.invariant.3 ∙ rw (z, c.read_entry-e.ensures) }

@@ -24,10 +24,10 @@ pub loop-i-smaller : goal.loop-i-smaller
 loop-i-smaller c = omega (arith, c.loop-i-test.true)
 
 pub loop-i-preserved : goal.loop-i-preserved
-loop-i-preserved c = (c.loop-i.invariant.0, c.mark_body.ensures.marked, omega (arith, c.loop-i-test.true), image_more _ _ _ _ _ _ c.loop-i.invariant.3 c.mark_body.ensures.marks_after)
+loop-i-preserved c = (c.loop-i.invariant.0, c.mark_body.ensures.marked, omega (arith, c.loop-i-test.true), image_more _ _ _ _ _ _ c.loop-i.invariant.3 c.mark_body.ensures.written)
 
 pub returns : goal.returns
 returns c =
     let l = c.loop-i in
     let z : l.i ≡ entries_of c.args.image.now = omega (arith, l.invariant.0, l.invariant.2, c.loop-i-test.false) in
-    record { marked = l.invariant.1; value = (c.shift_for-shift.ensures, rw z at l.invariant.3) }
+    record { marked = l.invariant.1; whole = (c.shift_for-shift.ensures, rw z at l.invariant.3) }

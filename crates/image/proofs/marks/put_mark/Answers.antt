@@ -34,10 +34,10 @@ pub returns-then-mark_entry-i : goal.returns-then-mark_entry-i
 returns-then-mark_entry-i c =
     let p = c.requires in
     let e = c.mark.ensures in
-    record { marked = put_marked _ _ _ _ p.2 (mark_holds _ _ _ _ _ e.0 e.1 e.2 p.1); marks_after = rw e.3 (put_here _ _ _ _ _ c.if-slot-lt4096.true (λ x. c.if-mark_entry-i.true (c.mark_entry.ensures ∙ x))) }
+    record { marked = put_marked _ _ _ _ p.2 (mark_holds _ _ _ _ _ e.0 e.1 e.2 p.1); written = rw e.3 (put_here _ _ _ _ _ c.if-slot-lt4096.true (λ x. c.if-mark_entry-i.true (c.mark_entry.ensures ∙ x))) }
 
 pub returns-else-mark_entry-i : goal.returns-else-mark_entry-i
-returns-else-mark_entry-i c = record { marked = c.requires.2; marks_after = put_had _ _ _ _ _ c.if-slot-lt4096.true (sym c.mark_entry.ensures ∙ c.if-mark_entry-i.false) }
+returns-else-mark_entry-i c = record { marked = c.requires.2; written = put_had _ _ _ _ _ c.if-slot-lt4096.true (sym c.mark_entry.ensures ∙ c.if-mark_entry-i.false) }
 
 pub returns-else-slot-lt4096 : goal.returns-else-slot-lt4096
-returns-else-slot-lt4096 c = record { marked = c.requires.2; marks_after = put_beyond _ _ _ _ _ c.if-slot-lt4096.false }
+returns-else-slot-lt4096 c = record { marked = c.requires.2; written = put_beyond _ _ _ _ _ c.if-slot-lt4096.false }

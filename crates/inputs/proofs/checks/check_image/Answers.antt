@@ -11,4 +11,4 @@ pub image_said-requires : goal.image_said-requires
 image_said-requires c = search rules
 
 pub returns : goal.returns
-returns c = record { value = contents_exactly _ _ (c.image_said.ensures ∙ ap image_said c.check_image.ensures.0); unchanged = refl }
+returns c = record { verdict = contents_exactly _ _ (c.image_said.ensures ∙ ap image_said c.check_image.ensures.0); unchanged = refl }

@@ -9,11 +9,11 @@ use Rattle.inputs.proofs.checks.check_lists.Goals as goal
 pub try_lists-requires : goal.try_lists-requires
 try_lists-requires c =
     let a = c.args in
-    let w : WindowsHold (lent a.base a.window.now a.base2 a.window2.now) = rw c.in-Accepted.is at c.check_windows.ensures.value.1.says in
+    let w : WindowsHold (lent a.base a.window.now a.base2 a.window2.now) = rw c.in-Accepted.is at c.check_windows.ensures.verdict.1.says in
     windows_small _ w
 
 pub returns-in-Refused : goal.returns-in-Refused
-returns-in-Refused c = record { value = lists_verdict_exactly _ _ _ _ (rw (← c.check_windows.ensures.value.0, c.in-Refused.is)); unchanged = (refl, refl) }
+returns-in-Refused c = record { verdict = lists_verdict_exactly _ _ _ _ (rw (← c.check_windows.ensures.verdict.0, c.in-Refused.is)); unchanged = (refl, refl) }
 
 pub returns-in-Accepted : goal.returns-in-Accepted
-returns-in-Accepted c = record { value = lists_verdict_exactly _ _ _ _ (rw (← c.check_windows.ensures.value.0, c.in-Accepted.is) c.try_lists.ensures); unchanged = (refl, refl) }
+returns-in-Accepted c = record { verdict = lists_verdict_exactly _ _ _ _ (rw (← c.check_windows.ensures.verdict.0, c.in-Accepted.is) c.try_lists.ensures); unchanged = (refl, refl) }

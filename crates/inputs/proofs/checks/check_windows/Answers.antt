@@ -12,4 +12,4 @@ returns c =
     let s = a.window.now in
     let b2 = a.base2 in
     let t = a.window2.now in
-    record { value = windows_exactly (lent b s b2 t) _ (rw (first_length_lem s t b b2, second_length_lem s t b b2) c.try_windows.ensures); unchanged = (refl, refl) }
+    record { verdict = windows_exactly (lent b s b2 t) _ (rw (first_length_lem s t b b2, second_length_lem s t b b2) c.try_windows.ensures); unchanged = (refl, refl) }

@@ -23,15 +23,15 @@ unfolding step_verdict
 returns-in-Refused c =
     let a = c.args in
     let m = lent a.base a.window.now a.base2 a.window2.now in
-    let e : Refused c.in-Refused.r ≡ step_verdict m a.image.now a.pc = rw (← c.check_windows.ensures.value.0, c.in-Refused.is) in
+    let e : Refused c.in-Refused.r ≡ step_verdict m a.image.now a.pc = rw (← c.check_windows.ensures.verdict.0, c.in-Refused.is) in
     let x = step_exactly m a.image.now a.pc _ e in
-    record { verdict_value = (x.0, x.1, refl); unchanged = (refl, refl, refl) }
+    record { verdict = (x.0, x.1, refl); unchanged = (refl, refl, refl) }
 
 pub returns-in-Accepted : goal.returns-in-Accepted
 unfolding step_verdict
 returns-in-Accepted c =
     let a = c.args in
     let m = lent a.base a.window.now a.base2 a.window2.now in
-    let e : c.try_code.result.verdict ≡ step_verdict m a.image.now a.pc = rw (← c.check_windows.ensures.value.0, c.in-Accepted.is) c.try_code.ensures.0 in
+    let e : c.try_code.result.verdict ≡ step_verdict m a.image.now a.pc = rw (← c.check_windows.ensures.verdict.0, c.in-Accepted.is) c.try_code.ensures.0 in
     let x = step_exactly m a.image.now a.pc _ e in
-    record { verdict_value = (x.0, x.1, c.try_code.ensures.1); unchanged = (refl, refl, refl) }
+    record { verdict = (x.0, x.1, c.try_code.ensures.1); unchanged = (refl, refl, refl) }

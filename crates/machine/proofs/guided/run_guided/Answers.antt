@@ -18,7 +18,7 @@ pub slice_bounds-run_steps-end : goal.slice_bounds-run_steps-end
 slice_bounds-run_steps-end c = search rules
 
 pub run_steps-requires : goal.run_steps-requires
-run_steps-requires c = record { ready = c.requires.ready; guides = unmarked _ _ c.requires.image_value }
+run_steps-requires c = record { ready = c.requires.ready; guides = unmarked _ _ c.requires.all_long }
 
 pub shape_of-window : goal.shape_of-window
 shape_of-window c = search rules

@@ -60,7 +60,7 @@ pub returns-in_default : goal.returns-in_default
 returns-in_default c =
     let g = c.loop-left.invariant.1 in
     let i = goes_read _ _ _ _ _ _ _ g c.read_record-i.ensures in
-    ends_stopped _ _ _ _ _ g.walk.stands (walk_is _ _ _ _ _ _ _ g.walk i c.execute_instruction-done.ensures.window2_after) _ (sym c.ending_of-ending.ensures) c.in_default.field-0 c.in_default.is
+    ends_stopped _ _ _ _ _ g.walk.stands (walk_is _ _ _ _ _ _ _ g.walk i c.execute_instruction-done.ensures.performed) _ (sym c.ending_of-ending.ensures) c.in_default.field-0 c.in_default.is
 
 pub overflow_sub-left : goal.overflow_sub-left
 overflow_sub-left c = let w = c.loop-left.invariant.1.walk in omega (arith, w.stands.some)
@@ -75,7 +75,7 @@ pub returns-then-left-eq0 : goal.returns-then-left-eq0
 returns-then-left-eq0 c =
     let g = c.loop-left.invariant.1 in
     let i = goes_read _ _ _ _ _ _ _ g c.read_record-i.ensures in
-    ends_made _ _ _ _ _ g.walk.stands (walk_is _ _ _ _ _ _ _ g.walk i c.execute_instruction-done.ensures.window2_after) _ (sym c.ending_of-ending.ensures) c.in-Made.field-0 c.in-Made.is
+    ends_made _ _ _ _ _ g.walk.stands (walk_is _ _ _ _ _ _ _ g.walk i c.execute_instruction-done.ensures.performed) _ (sym c.ending_of-ending.ensures) c.in-Made.field-0 c.in-Made.is
 
 pub steady-requires : goal.steady-requires
 steady-requires c = search rules
@@ -90,7 +90,7 @@ pub returns-then-not-steady : goal.returns-then-not-steady
 returns-then-not-steady c =
     let g = c.loop-left.invariant.1 in
     let i = goes_read _ _ _ _ _ _ _ g c.read_record-i.ensures in
-    ends_made _ _ _ _ _ g.walk.stands (walk_is _ _ _ _ _ _ _ g.walk i c.execute_instruction-done.ensures.window2_after) _ (sym c.ending_of-ending.ensures) c.in-Made.field-0 c.in-Made.is
+    ends_made _ _ _ _ _ g.walk.stands (walk_is _ _ _ _ _ _ _ g.walk i c.execute_instruction-done.ensures.performed) _ (sym c.ending_of-ending.ensures) c.in-Made.field-0 c.in-Made.is
 
 pub bounds-core-0 : goal.bounds-core-0
 bounds-core-0 c = search rules
@@ -105,9 +105,9 @@ pub loop-left-preserved-then-k-s : goal.loop-left-preserved-then-k-s
 loop-left-preserved-then-k-s c =
     let g = c.loop-left.invariant.1 in
     let i = goes_read _ _ _ _ _ _ _ g c.read_record-i.ensures in
-    let v = walk_is _ _ _ _ _ _ _ g.walk i c.execute_instruction-done.ensures.window2_after in (
+    let v = walk_is _ _ _ _ _ _ _ g.walk i c.execute_instruction-done.ensures.performed in (
       (c.execute_instruction-done.auto.window ∙ c.loop-left.invariant.0.0, c.execute_instruction-done.auto.window2 ∙ c.loop-left.invariant.0.1),
-      goes_index _ _ _ _ _ _ _ g c.if-k-s.true c.index_from-k.ensures.1 (λ l x. walk_next _ _ _ _ _ _ _ g.walk v c.execute_instruction-done.result refl (sym c.steady.ensures ∙ c.if-not-steady.false) c.execute_instruction-done.ensures.result_value (omega (arith, c.if-left-eq0.false)) _ x l) c.wrapping_add_u32-next.ensures.value,
+      goes_index _ _ _ _ _ _ _ g c.if-k-s.true c.index_from-k.ensures.1 (λ l x. walk_next _ _ _ _ _ _ _ g.walk v c.execute_instruction-done.result refl (sym c.steady.ensures ∙ c.if-not-steady.false) c.execute_instruction-done.ensures.steady (omega (arith, c.if-left-eq0.false)) _ x l) c.wrapping_add_u32-next.ensures.value,
     )
 
 pub place_at-at-requires : goal.place_at-at-requires
@@ -123,7 +123,7 @@ pub returns-then-s-at : goal.returns-then-s-at
 returns-then-s-at c =
     let g = c.loop-left.invariant.1 in
     let i = goes_read _ _ _ _ _ _ _ g c.read_record-i.ensures in
-    ends_made _ _ _ _ _ g.walk.stands (walk_is _ _ _ _ _ _ _ g.walk i c.execute_instruction-done.ensures.window2_after) _ (sym c.ending_of-ending.ensures) c.in-Made.field-0 c.in-Made.is
+    ends_made _ _ _ _ _ g.walk.stands (walk_is _ _ _ _ _ _ _ g.walk i c.execute_instruction-done.ensures.performed) _ (sym c.ending_of-ending.ensures) c.in-Made.field-0 c.in-Made.is
 
 pub next_after-next-requires-in-loop-left : goal.next_after-next-requires-in-loop-left
 next_after-next-requires-in-loop-left c = let g = c.loop-left.invariant.1 in let y = g.walk.span.lies in omega (arith, y.ends, y.inside, c.if-s-at.false)
@@ -135,9 +135,9 @@ pub loop-left-preserved : goal.loop-left-preserved
 loop-left-preserved c =
     let g = c.loop-left.invariant.1 in
     let i = goes_read _ _ _ _ _ _ _ g c.read_record-i.ensures in
-    let v = walk_is _ _ _ _ _ _ _ g.walk i c.execute_instruction-done.ensures.window2_after in (
+    let v = walk_is _ _ _ _ _ _ _ g.walk i c.execute_instruction-done.ensures.performed in (
       (c.execute_instruction-done.auto.window ∙ c.loop-left.invariant.0.0, c.execute_instruction-done.auto.window2 ∙ c.loop-left.invariant.0.1),
       goes_place _ _ _ _ _ _ _ g.walk.span.lies (place_end c.args.image.now c.args.s c.args.guide g.walk.span.lies c.args.marks.now _ _ _ _ c.place_at-at.ensures) c.if-s-at.false (place_in c.args.image.now c.args.s c.args.guide g.walk.span.lies c.args.marks.now _ _ _ _ c.place_at-at.ensures g.by_record)
-          (λ k l x. walk_next _ _ _ _ _ _ _ g.walk v c.execute_instruction-done.result refl (sym c.steady.ensures ∙ c.if-not-steady.false) c.execute_instruction-done.ensures.result_value (omega (arith, c.if-left-eq0.false)) k x l)
+          (λ k l x. walk_next _ _ _ _ _ _ _ g.walk v c.execute_instruction-done.result refl (sym c.steady.ensures ∙ c.if-not-steady.false) c.execute_instruction-done.ensures.steady (omega (arith, c.if-left-eq0.false)) k x l)
           c.next_after-next-in-loop-left.ensures,
     )

@@ -8,13 +8,13 @@ pub flat-words-requires : goal.flat-words-requires
 flat-words-requires c = search rules
 
 pub permits_of-p-requires : goal.permits_of-p-requires
-permits_of-p-requires c = (image_holds _ _ _ c.requires.ready.accepted, c.requires.image_value)
+permits_of-p-requires c = (image_holds _ _ _ c.requires.ready.accepted, c.requires.all_long)
 
 pub slice_bounds-run_steps-end : goal.slice_bounds-run_steps-end
 slice_bounds-run_steps-end c = search rules
 
 pub run_steps-w-requires : goal.run_steps-w-requires
-run_steps-w-requires c = record { ready = c.requires.ready; guides = unmarked _ _ c.requires.image_value }
+run_steps-w-requires c = record { ready = c.requires.ready; guides = unmarked _ _ c.requires.all_long }
 
 pub outcome_of-requires : goal.outcome_of-requires
 outcome_of-requires c = search rules
@@ -29,5 +29,5 @@ pub returns : goal.returns
 returns c =
     let y = c.requires.ready in
     let f = c.flat-words.ensures in
-    let s = accepted_one _ _ _ _ _ y.accepted (rw f at c.run_steps-w.ensures) (rw f at c.permits_of-p.ensures.value) in
+    let s = accepted_one _ _ _ _ _ y.accepted (rw f at c.run_steps-w.ensures) (rw f at c.permits_of-p.ensures.permits) in
     rw c.outcome_of.ensures s

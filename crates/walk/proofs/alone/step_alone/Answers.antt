@@ -6,4 +6,4 @@ pub returns : goal.returns
 returns c =
     let s = c.step in
     let a = c.args in
-    single_step _ _ s.auto.window2 a.image.now a.registers a.requests a.ranges a.window.now s.ensures.permits_after
+    single_step _ _ s.auto.window2 a.image.now a.registers a.requests a.ranges a.window.now s.ensures.stepped

@@ -4,10 +4,10 @@ use Rattle.walk.proofs.Promises.{begun_long, begun_refused, begun_accepted}
 use Rattle.walk.proofs.blocks.begin.Goals as goal
 
 pub returns-then-image-gt65536 : goal.returns-then-image-gt65536
-returns-then-image-gt65536 c = let t = begun_long _ _ _ c.start_window-window.ensures c.start_registers-registers.ensures c.if-image-gt65536.true c.put_long-long.ensures in record { out_after = t.0; part = t.1 }
+returns-then-image-gt65536 c = let t = begun_long _ _ _ c.start_window-window.ensures c.start_registers-registers.ensures c.if-image-gt65536.true c.put_long-long.ensures in record { placed = t.0; part = t.1 }
 
 pub returns-in-Refused : goal.returns-in-Refused
-returns-in-Refused c = let t = begun_refused _ _ _ c.start_window-window.ensures c.start_registers-registers.ensures c.if-image-gt65536.false _ (sym c.try_alone.ensures ∙ c.in-Refused.is) c.put_refused-refused.ensures in record { out_after = t.0; part = t.1 }
+returns-in-Refused c = let t = begun_refused _ _ _ c.start_window-window.ensures c.start_registers-registers.ensures c.if-image-gt65536.false _ (sym c.try_alone.ensures ∙ c.in-Refused.is) c.put_refused-refused.ensures in record { placed = t.0; part = t.1 }
 
 pub returns : goal.returns
 returns c =
@@ -15,4 +15,4 @@ returns c =
     let f = c.start_window-window.ensures in
     let e = c.start_registers-registers.ensures in
     let t = begun_accepted _ _ _ f e c.if-image-gt65536.false g c.put_header-header.ensures in
-    record { out_after = t.0; part = t.1 }
+    record { placed = t.0; part = t.1 }

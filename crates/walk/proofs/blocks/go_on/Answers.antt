@@ -14,7 +14,7 @@ returns-then-at-gt-FULL c =
     let t = c.loop-made.invariant in
     let l = c.loop-made-test.true in
     let t = goes _ _ c.requires (filled _ _ _ _ _ _ t l c.if-at-gt-FULL.true) (λ n. omega (arith, c.if-at-gt-FULL.true, t.wrote.room)) (λ n. omega (arith, l)) in
-    record { out_after = t.0; part = t.1.0; onward = t.1.1 }
+    record { placed = t.0; part = t.1.0; onward = t.1.1 }
 
 pub put_line-at-requires : goal.put_line-at-requires
 put_line-at-requires c = omega (arith, c.if-at-gt-FULL.false)
@@ -26,7 +26,7 @@ pub put_end-trapped-requires : goal.put_end-trapped-requires
 put_end-trapped-requires c = omega (arith, c.if-at-gt-FULL.false, c.put_line-at.ensures.room, c.put_line-at.ensures.size)
 
 pub returns-then-is_trap : goal.returns-then-is_trap
-returns-then-is_trap c = let t = goes_last _ _ c.requires (trapped _ _ _ _ _ _ c.loop-made.invariant c.loop-made-test.true c.if-at-gt-FULL.false c.no_ranges-ranges.ensures c.step_alone-s.ensures c.in-Made.is c.put_line-at.ensures (sym c.is_trap.ensures ∙ c.if-is_trap.true) c.put_end-trapped.ensures) in record { out_after = t.0; part = t.1.0; onward = t.1.1 }
+returns-then-is_trap c = let t = goes_last _ _ c.requires (trapped _ _ _ _ _ _ c.loop-made.invariant c.loop-made-test.true c.if-at-gt-FULL.false c.no_ranges-ranges.ensures c.step_alone-s.ensures c.in-Made.is c.put_line-at.ensures (sym c.is_trap.ensures ∙ c.if-is_trap.true) c.put_end-trapped.ensures) in record { placed = t.0; part = t.1.0; onward = t.1.1 }
 
 pub loop-made-smaller : goal.loop-made-smaller
 loop-made-smaller c = omega (arith, c.loop-made-test.true)
@@ -41,16 +41,16 @@ pub put_end-last-requires : goal.put_end-last-requires
 put_end-last-requires c = omega (arith, c.if-at-gt-FULL.false, c.put_stop-stopped.ensures.room, c.put_stop-stopped.ensures.size)
 
 pub returns-in-Stopped : goal.returns-in-Stopped
-returns-in-Stopped c = let t = goes_last _ _ c.requires (stopped _ _ _ _ _ _ c.loop-made.invariant c.loop-made-test.true c.if-at-gt-FULL.false c.no_ranges-ranges.ensures c.step_alone-s.ensures c.in-Stopped.is c.put_stop-stopped.ensures c.put_end-last.ensures) in record { out_after = t.0; part = t.1.0; onward = t.1.1 }
+returns-in-Stopped c = let t = goes_last _ _ c.requires (stopped _ _ _ _ _ _ c.loop-made.invariant c.loop-made-test.true c.if-at-gt-FULL.false c.no_ranges-ranges.ensures c.step_alone-s.ensures c.in-Stopped.is c.put_stop-stopped.ensures c.put_end-last.ensures) in record { placed = t.0; part = t.1.0; onward = t.1.1 }
 
 pub put_refused-refused-requires : goal.put_refused-refused-requires
 put_refused-refused-requires c = omega (arith, c.if-at-gt-FULL.false)
 
 pub returns-in-Refused : goal.returns-in-Refused
-returns-in-Refused c = let t = goes_last _ _ c.requires (refused _ _ _ _ _ _ c.loop-made.invariant c.loop-made-test.true c.if-at-gt-FULL.false c.no_ranges-ranges.ensures c.step_alone-s.ensures c.in-Refused.is c.put_refused-refused.ensures) in record { out_after = t.0; part = t.1.0; onward = t.1.1 }
+returns-in-Refused c = let t = goes_last _ _ c.requires (refused _ _ _ _ _ _ c.loop-made.invariant c.loop-made-test.true c.if-at-gt-FULL.false c.no_ranges-ranges.ensures c.step_alone-s.ensures c.in-Refused.is c.put_refused-refused.ensures) in record { placed = t.0; part = t.1.0; onward = t.1.1 }
 
 pub returns : goal.returns
-returns c = let t = goes_last _ _ c.requires (ended _ _ _ _ _ _ c.loop-made.invariant c.loop-made-test.false c.put_end-end.ensures) in record { out_after = t.0; part = t.1.0; onward = t.1.1 }
+returns c = let t = goes_last _ _ c.requires (ended _ _ _ _ _ _ c.loop-made.invariant c.loop-made-test.false c.put_end-end.ensures) in record { placed = t.0; part = t.1.0; onward = t.1.1 }
 
 pub slice_bounds-step_alone-end : goal.slice_bounds-step_alone-end
 slice_bounds-step_alone-end c = sym c.loop-made.invariant.size
