@@ -1,14 +1,11 @@
 -- What is known of an instruction in an arm of two operations: the act of either.
 -- Assumes nothing.
 use Prim.Native.Nat.{ℕ}
-use native.Mathlib.Omega.{arith}
-use mathlib.Core.Path.{◌≡◌, refl, ap}
+use mathlib.Core.Path.{◌≡◌}
 use mathlib.Core.Bool.{Bool, true, false}
 use mathlib.Core.Logic.{◌⊎◌, inl, inr}
-use denote.Enum.Declared.{tag_of}
-use Rattle.operations.specs.contracts.Context as context
 use Rattle.operations.specs.declared.Context.{Context}
-use Rattle.operations.specs.declared.Context.TheVariants.{Call, Calli, Ret, Rfe, Svlcx, Rslcx, Bisr, Syscall}
+use Rattle.operations.specs.declared.Context.TheVariants.{Call, Calli, Svlcx, Bisr}
 use Rattle.image.specs.declared.fetch.Instruction.{Instruction}
 use Rattle.registers.specs.Registers.{A, pc, plus_of}
 use Rattle.registers.specs.declared.Registers.{Registers}

@@ -6,7 +6,7 @@ use mathlib.Core.Path.{◌≡◌, refl}
 use mathlib.Core.List.{List}
 use Rattle.memory.specs.Memory.{Memory, memory}
 use Rattle.memory.specs.Word.{word_at, put_word}
-use Rattle.registers.specs.Registers.{registers, pcxi, fcx, with_pcxi, with_fcx}
+use Rattle.registers.specs.Registers.{pcxi, fcx, with_pcxi, with_fcx}
 use Rattle.registers.specs.declared.Registers.{Registers}
 use Rattle.events.specs.declared.event.Event.TheVariants as event
 use Rattle.events.specs.declared.event.Stop.TheVariants as stop

@@ -5,7 +5,7 @@ use native.Mathlib.Omega.{arith}
 use mathlib.Core.Path.{◌≡◌, refl, ◌∙◌}
 use mathlib.Core.List.{List}
 use lib.ListN.{length}
-use Rattle.memory.specs.Memory.{Memory, memory}
+use Rattle.memory.specs.Memory.{Memory}
 use Rattle.memory.proofs.Words.{put_word_length, put_words_length}
 use Rattle.bounds.proofs.Fields.{pcxi_word}
 use Rattle.registers.specs.Registers.{fcx}

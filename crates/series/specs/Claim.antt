@@ -1,5 +1,5 @@
 -- The claim of demand 3.
-use Rattle.std.specs.Prelude.{ℕ, ◌+◌, ◌≤◌, ◌≡◌, List, [], ◌∷◌, ◌++◌}
+use Rattle.std.specs.Prelude.{ℕ, ◌≤◌, ◌≡◌, List, [], ◌∷◌, ◌++◌}
 use Rattle.memory.specs.Memory.{Memory}
 use Rattle.memory.specs.Word.{word_at}
 use Rattle.fields.specs.Pcxi.{pcxi_ul}

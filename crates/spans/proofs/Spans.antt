@@ -29,7 +29,7 @@ use Rattle.protection.proofs.Checks.{unasked, allowed, same_check}
 use Rattle.image.specs.Lengths.{length_of, address_after}
 use Rattle.image.specs.Table.{entry_at}
 use Rattle.image.specs.Records.{ImageHolds}
-use Rattle.image.specs.Rest.{rest, body_walk, rest_of, entry_of, IndexSays, Begins}
+use Rattle.image.specs.Rest.{body_walk, rest_of, entry_of, IndexSays, Begins}
 use Rattle.image.specs.Marks.{long_only, mark_entry, mark_index, slot_of}
 use Rattle.image.specs.declared.marks.Guide.{Guide}
 use Rattle.image.specs.Rules.{ImageRight}

@@ -1,4 +1,3 @@
-use borrow.Author.Rules.{rules}
 use Rattle.acts.proofs.passed_on.Goals as goal
 
 pub returns-in-Trap : goal.returns-in-Trap

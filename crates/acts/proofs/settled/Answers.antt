@@ -1,4 +1,3 @@
-use borrow.Author.Rules.{rules}
 use mathlib.Core.Path.{refl}
 use Rattle.acts.proofs.Steadiness.{icr_differs, syscon_differs, prs_differs, all_same}
 use Rattle.acts.proofs.settled.Goals as goal

@@ -1,4 +1,3 @@
-use borrow.Author.Rules.{rules}
 use Rattle.answers.proofs.event_answer.Goals as goal
 
 pub returns-in-Instruction : goal.returns-in-Instruction

@@ -1,4 +1,3 @@
-use borrow.Author.Rules.{rules}
 use Rattle.answers.proofs.Numbers.{stop_small}
 use native.Mathlib.Omega.{arith}
 use Rattle.answers.proofs.outcome_answer.Goals as goal

@@ -1,4 +1,3 @@
-use borrow.Author.Rules.{rules}
 use Rattle.answers.specs.Answers.{packed_of}
 use native.Mathlib.Omega.{arith}
 use Rattle.answers.proofs.packed.Goals as goal

@@ -1,4 +1,3 @@
-use borrow.Author.Rules.{rules}
 use Rattle.answers.proofs.Numbers.{number_small}
 use native.Mathlib.Omega.{arith}
 use Rattle.answers.proofs.refusal_answer.Goals as goal

@@ -1,4 +1,3 @@
-use borrow.Author.Rules.{rules}
 use Rattle.answers.proofs.verdict_answer.Goals as goal
 
 pub returns-in-Refused : goal.returns-in-Refused

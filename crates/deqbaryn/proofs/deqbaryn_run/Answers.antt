@@ -1,4 +1,3 @@
-use borrow.Author.Rules.{rules}
 use Rattle.decisions.proofs.Known.{words_of}
 use Rattle.deqbaryn.proofs.Hosts.{run_wrong, run_right, run_kept}
 use Rattle.deqbaryn.proofs.deqbaryn_run.Goals as goal

@@ -1,4 +1,3 @@
-use borrow.Author.Rules.{rules}
 use mathlib.Core.Path.{refl, sym, ◌∙◌}
 use Rattle.memory.specs.Address.{as_address}
 use Rattle.memory.specs.Memory.{lent}

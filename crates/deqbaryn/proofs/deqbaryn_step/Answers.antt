@@ -1,4 +1,3 @@
-use borrow.Author.Rules.{rules}
 use Rattle.decisions.proofs.Known.{words_of}
 use Rattle.deqbaryn.proofs.Hosts.{step_wrong, step_right}
 use Rattle.deqbaryn.proofs.deqbaryn_step.Goals as goal

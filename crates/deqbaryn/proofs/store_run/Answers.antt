@@ -1,4 +1,3 @@
-use borrow.Author.Rules.{rules}
 use Rattle.deqbaryn.proofs.store_run.Goals as goal
 
 pub returns-in-Made : goal.returns-in-Made

@@ -1,4 +1,3 @@
-use borrow.Author.Rules.{rules}
 use Rattle.execute.proofs.ending_of.Goals as goal
 
 pub returns-in-Steady : goal.returns-in-Steady

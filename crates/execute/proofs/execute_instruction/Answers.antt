@@ -1,4 +1,3 @@
-use borrow.Author.Rules.{rules}
 use mathlib.Core.Path.{sym, ◌∙◌}
 use Rattle.execute.specs.Execute.{finish_of}
 use Rattle.execute.proofs.Arms.{executed_as, told, entered}

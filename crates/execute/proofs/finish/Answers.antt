@@ -1,4 +1,3 @@
-use borrow.Author.Rules.{rules}
 use Rattle.execute.specs.Execute.{finish_of}
 use Rattle.execute.proofs.finish.Goals as goal
 

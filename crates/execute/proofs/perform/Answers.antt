@@ -1,4 +1,3 @@
-use borrow.Author.Rules.{rules}
 use Rattle.acts.proofs.Steadiness.{steady_pc, done_did}
 use Rattle.execute.proofs.Arms.{performs, keeps_memory, steady_integer}
 use Rattle.execute.proofs.perform.Goals as goal

@@ -1,4 +1,3 @@
-use Rattle.std.proofs.Common.{rules}
 use Rattle.inputs_export.proofs.deqbaryn_check_image.Goals as goal
 
 pub returns : goal.returns

@@ -1,4 +1,4 @@
-use Rattle.std.proofs.Common.{◌≡◌, ℕ, sym, refl, ◌∙◌, arith, rules}
+use Rattle.std.proofs.Common.{◌≡◌, ℕ, sym, refl, ◌∙◌, arith}
 use Rattle.image.specs.declared.records.ImageCheck.TheVariants.{Holds, Table, Record}
 use Rattle.inputs_export.proofs.deqbaryn_fetch.Goals as goal
 

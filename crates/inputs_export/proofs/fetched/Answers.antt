@@ -1,23 +1,8 @@
-use Rattle.std.proofs.Common.{refl, arith, rules}
+use Rattle.std.proofs.Common.{refl, arith}
 use Rattle.image.specs.Fetch.{Bounded, FetchSays}
 use Rattle.image.specs.declared.fetch.Fetched.TheVariants.{Found, Nothing}
 use Rattle.inputs_export.proofs.Covers.{covers_few, distance_is}
 use Rattle.inputs_export.proofs.fetched.Goals as goal
-
-pub fetch-requires : goal.fetch-requires
-fetch-requires c = search rules
-
-pub enum_told-1 : goal.enum_told-1
-enum_told-1 c = search rules
-
-pub enum_known-i : goal.enum_known-i
-enum_known-i c = search rules
-
-pub overflow_cast-result : goal.overflow_cast-result
-overflow_cast-result c = search rules
-
-pub overflow_mul-result : goal.overflow_mul-result
-overflow_mul-result c = search rules
 
 pub overflow_mul-result-in-Found : goal.overflow_mul-result-in-Found
 overflow_mul-result-in-Found c = let b : Bounded (Found c.in-Found.i) = rw c.in-Found.is at c.fetch.ensures.1 in omega arith
@@ -36,12 +21,6 @@ overflow_mul-result-in-Found-3 c = let b : Bounded (Found c.in-Found.i) = rw c.i
 
 pub overflow_add-result-in-Found-2 : goal.overflow_add-result-in-Found-2
 overflow_add-result-in-Found-2 c = let b : Bounded (Found c.in-Found.i) = rw c.in-Found.is at c.fetch.ensures.1 in omega arith
-
-pub wrapping_sub_u32-requires : goal.wrapping_sub_u32-requires
-wrapping_sub_u32-requires c = search rules
-
-pub overflow_cast-result-in-Found : goal.overflow_cast-result-in-Found
-overflow_cast-result-in-Found c = search rules
 
 pub overflow_add-result-in-Found-3 : goal.overflow_add-result-in-Found-3
 overflow_add-result-in-Found-3 c =

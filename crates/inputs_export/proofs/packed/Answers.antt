@@ -1,4 +1,3 @@
-use Rattle.std.proofs.Common.{rules}
 use Rattle.inputs_export.proofs.packed.Goals as goal
 
 pub returns-in-Refused : goal.returns-in-Refused

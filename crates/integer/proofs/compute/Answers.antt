@@ -1,4 +1,3 @@
-use borrow.Author.Rules.{rules}
 use mathlib.Core.Path.{refl, ap, ◌∙◌}
 use Rattle.arithmetic.specs.Arithmetic.{addc_of, subc_of}
 use Rattle.integer.specs.Integer.{flagged, carried, plain, compute_of}

@@ -1,4 +1,3 @@
-use borrow.Author.Rules.{rules}
 use Rattle.integer.proofs.with_flags.Goals as goal
 
 pub returns : goal.returns

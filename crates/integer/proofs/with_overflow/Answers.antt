@@ -1,4 +1,3 @@
-use borrow.Author.Rules.{rules}
 use Rattle.integer.proofs.with_overflow.Goals as goal
 
 pub returns : goal.returns

@@ -1,4 +1,3 @@
-use borrow.Author.Rules.{rules}
 use Rattle.integer_export.specs.Export.{export_of}
 use Rattle.integer_export.proofs.deqbaryn_integer.Goals as goal
 

@@ -1,9 +1,6 @@
-use borrow.Author.Rules.{rules}
-use Prim.Native.Nat.{ℕ, ◌-◌, ◌≤◌}
-use mathlib.Core.Path.{◌≡◌, refl, subst, ◌∙◌}
+use Prim.Native.Nat.{◌-◌, ◌≤◌}
+use mathlib.Core.Path.{◌≡◌}
 use Rattle.interrupts.specs.Sources.{best_below}
-use Rattle.interrupts.proofs.Sources.{turn, best_is}
-use native.Mathlib.Omega.{arith}
 use Rattle.interrupts.proofs.best_source.Given as goal
 
 abbrev pub invariant-loop-i : goal.invariant-loop-i

@@ -1,4 +1,3 @@
-use borrow.Author.Rules.{rules}
 use borrow.Author.Tests.{le-leb, lt-leb}
 use Rattle.interrupts.specs.Sources.{better_of}
 use Rattle.interrupts.proofs.better.Goals as goal

@@ -1,4 +1,3 @@
-use borrow.Author.Rules.{rules}
 use borrow.Author.Tests.{lt-ltb, le-ltb}
 use Rattle.interrupts.specs.Sources.{cleared_at}
 use Rattle.interrupts.proofs.clear.Goals as goal

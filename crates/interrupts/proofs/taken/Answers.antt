@@ -1,4 +1,3 @@
-use borrow.Author.Rules.{rules}
 use Rattle.interrupts.specs.Sources.{takes}
 use Rattle.interrupts.proofs.taken.Goals as goal
 

@@ -1,4 +1,3 @@
-use borrow.Author.Rules.{rules}
 use Rattle.jumps.specs.Jumps.{branch_of}
 use Rattle.jumps.proofs.branch.Goals as goal
 

@@ -1,4 +1,3 @@
-use borrow.Author.Rules.{rules}
 use Rattle.jumps.proofs.condition.Goals as goal
 
 pub returns-in-Jeq : goal.returns-in-Jeq

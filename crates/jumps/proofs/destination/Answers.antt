@@ -1,4 +1,3 @@
-use borrow.Author.Rules.{rules}
 use Rattle.jumps.specs.Jumps.{target_of}
 use Rattle.jumps.proofs.destination.Goals as goal
 

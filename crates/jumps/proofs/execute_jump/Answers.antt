@@ -1,4 +1,3 @@
-use borrow.Author.Rules.{rules}
 use Rattle.acts.proofs.Steadiness.{steady_next, done_ended}
 use Rattle.jumps.specs.Jumps.{jump_of}
 use Rattle.jumps.proofs.execute_jump.Goals as goal

@@ -1,20 +1,8 @@
-use Prim.Native.Nat.{ℕ, ◌/◌, ◌≤◌}
-use mathlib.Core.Path.{◌≡◌, refl, sym, ap, ◌∙◌}
-use mathlib.Core.Bool.{true}
-use borrow.Author.Rules.{rules}
-use native.Mathlib.Omega.{arith}
-use lib.ListN.{length, set, length-set}
-use Rattle.memory.specs.Memory.{Memory, lent}
-use Rattle.fields.specs.Link.{link_of}
-use Rattle.areas.specs.Link.{area_address}
-use Rattle.areas.specs.Place.{place_of}
+use mathlib.Core.Path.{◌≡◌}
+use lib.ListN.{length}
+use Rattle.memory.specs.Memory.{lent}
 use Rattle.lists.specs.Walk.{list_walk}
-use Rattle.fields.specs.declared.link.Link.{Link}
-use Rattle.areas.specs.declared.link.Place.TheVariants.{At, Outside}
-use Rattle.areas.proofs.Places.{Within, placed_at_lem}
-use Rattle.areas.proofs.Parts.{first_word_placed}
-use Rattle.lists.proofs.Walks.{walk_whole, walk_outside, walk_again}
-use Rattle.lists.proofs.Fuel.{unmet, unmet_set, mark_in, walk_next}
+use Rattle.lists.proofs.Fuel.{unmet}
 use Rattle.lists.proofs.walk.Given as goal
 
 abbrev pub invariant-loop-l : goal.invariant-loop-l

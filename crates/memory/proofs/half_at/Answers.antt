@@ -1,4 +1,3 @@
-use borrow.Author.Rules.{rules}
 use Rattle.memory.specs.Word.{half_at}
 use native.Mathlib.Omega.{arith}
 use Rattle.memory.proofs.half_at.Goals as goal

@@ -1,4 +1,3 @@
-use borrow.Author.Rules.{rules}
 use mathlib.Core.Path.{refl}
 use Rattle.memory.specs.Word.{put_byte}
 use Rattle.memory.proofs.put_byte.Goals as goal

@@ -1,6 +1,4 @@
-use Prim.Native.Nat.{◌-◌, ◌≤◌}
 use mathlib.Core.Path.{◌≡◌, refl, ap, ◌∙◌}
-use lib.ListN.{length}
 use Rattle.memory.specs.Word.{put_words}
 use Rattle.memory.proofs.Words.{put_turn}
 use native.Mathlib.Omega.{arith}

@@ -1,4 +1,3 @@
-use borrow.Author.Rules.{rules}
 use Rattle.memory.specs.Word.{word_at}
 use native.Mathlib.Omega.{arith}
 use Rattle.memory.proofs.word_at.Goals as goal

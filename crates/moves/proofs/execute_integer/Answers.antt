@@ -1,4 +1,3 @@
-use borrow.Author.Rules.{rules}
 use Rattle.moves.specs.Moves.{integer_of}
 use Rattle.moves.proofs.execute_integer.Goals as goal
 

@@ -1,4 +1,3 @@
-use borrow.Author.Rules.{rules}
 use Rattle.acts.proofs.Steadiness.{steady_next, done_ended}
 use Rattle.moves.specs.Moves.{move_of}
 use Rattle.moves.proofs.execute_move.Goals as goal

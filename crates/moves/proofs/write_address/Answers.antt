@@ -1,4 +1,3 @@
-use borrow.Author.Rules.{rules}
 use Rattle.acts.proofs.Steadiness.{steady_next, done_ended}
 use Rattle.moves.specs.Moves.{address_write}
 use Rattle.moves.proofs.write_address.Goals as goal

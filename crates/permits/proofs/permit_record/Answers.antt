@@ -1,4 +1,3 @@
-use borrow.Author.Rules.{rules}
 use native.Mathlib.Omega.{arith}
 use Rattle.operations.specs.declared.Access.TheVariants as data-access
 use Rattle.image.specs.Fetch.{instruction_at}

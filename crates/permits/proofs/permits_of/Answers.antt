@@ -1,6 +1,4 @@
-use borrow.Author.Rules.{rules}
 use mathlib.Core.Path.{sym, ◌∙◌}
-use borrow.Author.Tests.{not-true}
 use Rattle.permits.proofs.Permitting.{of_access, both_off, both_taken, both_quiet}
 use Rattle.permits.proofs.permits_of.Goals as goal
 

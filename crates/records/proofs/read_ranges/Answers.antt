@@ -1,10 +1,9 @@
-use Prim.Native.Nat.{◌-◌, ◌≤◌}
-use mathlib.Core.Path.{◌≡◌, refl, ◌∙◌}
-use lib.ListN.{length, length-set}
+use mathlib.Core.Path.{refl, ◌∙◌}
+use lib.ListN.{length-set}
 use borrow.Author.Count.{below_none}
 use Rattle.protection.specs.declared.range.Range.{Range}
 use Rattle.records.specs.CoreRecord.{ranges_of}
-use Rattle.records.proofs.Readings.{ReadRanges, ranges_turn, ranges_end}
+use Rattle.records.proofs.Readings.{ranges_turn, ranges_end}
 use native.Mathlib.Omega.{arith}
 use Rattle.records.proofs.read_ranges.Goals as goal
 

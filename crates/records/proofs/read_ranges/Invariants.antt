@@ -1,11 +1,7 @@
 use Prim.Native.Nat.{◌-◌, ◌≤◌}
-use mathlib.Core.Path.{◌≡◌, refl, ◌∙◌}
-use lib.ListN.{length, length-set}
-use borrow.Author.Count.{below_none}
-use Rattle.protection.specs.declared.range.Range.{Range}
-use Rattle.records.specs.CoreRecord.{ranges_of}
-use Rattle.records.proofs.Readings.{ReadRanges, ranges_turn, ranges_end}
-use native.Mathlib.Omega.{arith}
+use mathlib.Core.Path.{◌≡◌}
+use lib.ListN.{length}
+use Rattle.records.proofs.Readings.{ReadRanges}
 use Rattle.records.proofs.read_ranges.Given as goal
 
 abbrev pub invariant-loop-k : goal.invariant-loop-k

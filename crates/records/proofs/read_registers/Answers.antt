@@ -1,4 +1,3 @@
-use borrow.Author.Rules.{rules}
 use Rattle.records.specs.CoreRecord.{registers_in}
 use Rattle.records.proofs.read_registers.Goals as goal
 

@@ -1,4 +1,3 @@
-use borrow.Author.Rules.{rules}
 use Rattle.records.specs.CoreRecord.{requests_in}
 use Rattle.records.proofs.read_requests.Goals as goal
 

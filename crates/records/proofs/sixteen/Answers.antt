@@ -1,4 +1,3 @@
-use borrow.Author.Rules.{rules}
 use mathlib.Core.Path.{refl, ◌∙◌}
 use Rattle.memory.proofs.Words.{read_whole}
 use Rattle.records.proofs.sixteen.Goals as goal

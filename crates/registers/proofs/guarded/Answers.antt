@@ -1,4 +1,3 @@
-use Rattle.std.proofs.Common.{rules}
 use Rattle.registers.specs.Registers.{guards}
 use Rattle.registers.proofs.guarded.Goals as goal
 

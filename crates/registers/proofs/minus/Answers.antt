@@ -1,4 +1,4 @@
-use Rattle.std.proofs.Common.{arith, rules}
+use Rattle.std.proofs.Common.{arith}
 use Rattle.registers.specs.Registers.{minus_of}
 use Rattle.registers.proofs.minus.Goals as goal
 

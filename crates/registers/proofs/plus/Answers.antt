@@ -1,4 +1,3 @@
-use Rattle.std.proofs.Common.{rules}
 use Rattle.registers.specs.Registers.{plus_of}
 use Rattle.registers.proofs.plus.Goals as goal
 

@@ -1,4 +1,4 @@
-use Rattle.std.proofs.Common.{rules, eq-eqb, ne_eqb}
+use Rattle.std.proofs.Common.{eq-eqb, ne_eqb}
 use Rattle.registers.specs.Registers.{second_of}
 use Rattle.registers.proofs.second.Goals as goal
 

@@ -1,4 +1,3 @@
-use borrow.Author.Rules.{rules}
 use mathlib.Core.Path.{sym, ◌∙◌}
 use Rattle.memory.specs.Memory.{lent}
 use Rattle.series.specs.Calls.{State, state}

@@ -1,5 +1,4 @@
-use Rattle.std.proofs.Common.{sym, ◌∙◌, arith, rules}
-use borrow.Author.Tests.{not-true, not-false}
+use Rattle.std.proofs.Common.{sym, ◌∙◌, arith}
 use Rattle.spans.proofs.Spans.{fetch_all, fetch_by_lem, fetch_least, range_below, below_bound}
 use Rattle.spans.proofs.fetchable.Goals as goal
 

@@ -1,25 +1,10 @@
-use Rattle.std.proofs.Common.{◌<◌, get_or, sym, ap, ◌∙◌, subst, arith, rules}
+use Rattle.std.proofs.Common.{◌<◌, get_or, sym, ap, ◌∙◌, subst, arith}
 use Rattle.protection.specs.Range.{ranges_in}
 use Rattle.spans.specs.Spans.{span_of}
 use Rattle.image.specs.declared.fetch.InBody.{InBody}
 use Rattle.image.proofs.Fetches.{fetch_none}
 use Rattle.spans.proofs.Spans.{fetchable_says, ahead_denied, ahead_nothing, ahead_first}
 use Rattle.spans.proofs.look_ahead.Goals as goal
-
-pub bounds-core-0 : goal.bounds-core-0
-bounds-core-0 c = search rules
-
-pub check_access-requires : goal.check_access-requires
-check_access-requires c = search rules
-
-pub enum_known-t : goal.enum_known-t
-enum_known-t c = search rules
-
-pub enum_told-1 : goal.enum_told-1
-enum_told-1 c = search rules
-
-pub rest_guided-found-requires : goal.rest_guided-found-requires
-rest_guided-found-requires c = search rules
 
 pub returns-then-rest-eq0 : goal.returns-then-rest-eq0
 returns-then-rest-eq0 c =

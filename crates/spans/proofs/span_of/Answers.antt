@@ -1,10 +1,7 @@
-use Rattle.std.proofs.Common.{arith, rules}
+use Rattle.std.proofs.Common.{arith}
 use Rattle.image.proofs.Images.{image_right}
 use Rattle.spans.proofs.Spans.{in_body, rest_ends}
 use Rattle.spans.proofs.span_of.Goals as goal
-
-pub overflow_mul-result : goal.overflow_mul-result
-overflow_mul-result c = search rules
 
 pub overflow_add-result : goal.overflow_add-result
 overflow_add-result c =
@@ -14,9 +11,6 @@ overflow_add-result c =
 pub returns-then-long : goal.returns-then-long
 returns-then-long c = rw (c.requires.1, c.if-long.true)
 
-pub overflow_cast-found : goal.overflow_cast-found
-overflow_cast-found c = search rules
-
 pub read_entry-e-requires : goal.read_entry-e-requires
 read_entry-e-requires c =
     let p = c.requires in
@@ -24,9 +18,6 @@ read_entry-e-requires c =
     let g = image_right img p.0 in
     let b = in_body img g c.args.long c.args.pc c.args.found p.1 p.2 c.if-long.false in
     omega (arith, g.table.counted.whole, b.0.0)
-
-pub overflow_mul-result-2 : goal.overflow_mul-result-2
-overflow_mul-result-2 c = search rules
 
 pub overflow_add-result-2 : goal.overflow_add-result-2
 overflow_add-result-2 c =
@@ -48,9 +39,6 @@ overflow_sub-result c =
     let g = image_right img p.0 in
     let b = in_body img g c.args.long c.args.pc c.args.found p.1 p.2 c.if-long.false in
     rw c.read_entry-e.ensures b.2
-
-pub bias_of-requires : goal.bias_of-requires
-bias_of-requires c = search rules
 
 pub returns : goal.returns
 returns c = rw (c.bias_of.ensures, c.read_entry-e.ensures, c.requires.1, c.if-long.false)

@@ -1,4 +1,3 @@
-use borrow.Author.Rules.{rules}
 use Rattle.text.specs.Hex.{hex_of}
 use Rattle.text.proofs.hex.Goals as goal
 

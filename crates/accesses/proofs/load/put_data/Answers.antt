@@ -1,4 +1,3 @@
-use borrow.Author.Rules.{rules}
 use Rattle.acts.proofs.Steadiness.{steady_next, done_ended}
 use Rattle.accesses.proofs.load.put_data.Goals as goal
 

@@ -1,4 +1,3 @@
-use borrow.Author.Rules.{rules}
 use borrow.Author.Tests.{lt-ltb, le-ltb}
 use Rattle.accesses.specs.Load.{extend_byte}
 use Rattle.accesses.proofs.load.signed_byte.Goals as goal

@@ -1,4 +1,3 @@
-use borrow.Author.Rules.{rules}
 use borrow.Author.Tests.{lt-ltb, le-ltb}
 use Rattle.accesses.specs.Load.{extend_half}
 use Rattle.accesses.proofs.load.signed_half.Goals as goal

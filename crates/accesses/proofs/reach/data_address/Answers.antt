@@ -1,4 +1,3 @@
-use borrow.Author.Rules.{rules}
 use Rattle.accesses.proofs.reach.data_address.Goals as goal
 
 pub returns : goal.returns

@@ -1,4 +1,3 @@
-use borrow.Author.Rules.{rules}
 use borrow.Author.Tests.{eq-eqb, ne_eqb}
 use Rattle.accesses.specs.Reach.{aligned_reach}
 use Rattle.accesses.proofs.reach.reach_aligned.Goals as goal

@@ -1,4 +1,3 @@
-use borrow.Author.Rules.{rules}
 use Rattle.accesses.specs.Reach.{reach_of}
 use Rattle.accesses.proofs.reach.reach_data.Goals as goal
 

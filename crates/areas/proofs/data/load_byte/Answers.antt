@@ -1,4 +1,3 @@
-use borrow.Author.Rules.{rules}
 use mathlib.Core.Path.{◌∙◌}
 use Rattle.areas.proofs.Accesses.{first_load_byte, second_load_byte}
 use Rattle.areas.proofs.data.load_byte.Goals as goal

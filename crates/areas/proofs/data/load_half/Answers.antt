@@ -1,4 +1,3 @@
-use borrow.Author.Rules.{rules}
 use mathlib.Core.Path.{◌∙◌}
 use Rattle.areas.proofs.Accesses.{first_load_half, second_load_half}
 use Rattle.areas.proofs.data.load_half.Goals as goal

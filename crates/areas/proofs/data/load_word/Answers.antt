@@ -1,4 +1,3 @@
-use borrow.Author.Rules.{rules}
 use mathlib.Core.Path.{◌∙◌}
 use Rattle.areas.proofs.Accesses.{first_load_word, second_load_word}
 use Rattle.areas.proofs.data.load_word.Goals as goal

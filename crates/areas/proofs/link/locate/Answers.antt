@@ -1,4 +1,3 @@
-use borrow.Author.Rules.{rules}
 use Rattle.areas.proofs.link.locate.Goals as goal
 
 pub returns : goal.returns

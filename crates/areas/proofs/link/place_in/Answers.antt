@@ -1,4 +1,3 @@
-use borrow.Author.Rules.{rules}
 use borrow.Author.Tests.{lt-ltb, le-ltb}
 use Rattle.areas.specs.Place.{placed_in}
 use Rattle.areas.proofs.link.place_in.Goals as goal

@@ -1,4 +1,3 @@
-use borrow.Author.Rules.{rules}
 use mathlib.Core.Path.{sym, ◌∙◌}
 use Rattle.areas.proofs.Places.{spot_first, spot_second, spot_neither}
 use Rattle.areas.proofs.link.spot_at.Goals as goal

@@ -1,4 +1,3 @@
-use borrow.Author.Rules.{rules}
 use Rattle.areas.proofs.link.spot_of.Goals as goal
 
 pub returns : goal.returns

@@ -1,4 +1,3 @@
-use borrow.Author.Rules.{rules}
 use Rattle.registers.specs.Registers.{registers}
 use Rattle.calls.specs.Instructions.{context_op}
 use Rattle.calls.proofs.Told.{call_told, lower_told}

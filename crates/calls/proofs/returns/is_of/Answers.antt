@@ -1,4 +1,3 @@
-use borrow.Author.Rules.{rules}
 use Rattle.calls.proofs.returns.is_of.Goals as goal
 
 pub returns-in-Upper : goal.returns-in-Upper

@@ -1,4 +1,3 @@
-use borrow.Author.Rules.{rules}
 use borrow.Author.Tests.{eq-eqb, ne_eqb}
 use Rattle.calls.specs.Returns.{previous_of}
 use Rattle.calls.proofs.returns.previous_context.Goals as goal

@@ -1,4 +1,3 @@
-use borrow.Author.Rules.{rules}
 use Rattle.acts.specs.Acts.{done_of}
 use Rattle.calls.specs.Returns.{ret_of}
 use Rattle.calls.proofs.returns.ret.Goals as goal

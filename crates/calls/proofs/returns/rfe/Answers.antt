@@ -1,4 +1,3 @@
-use borrow.Author.Rules.{rules}
 use Rattle.acts.specs.Acts.{done_of}
 use Rattle.calls.specs.Returns.{rfe_of}
 use Rattle.calls.proofs.returns.rfe.Goals as goal

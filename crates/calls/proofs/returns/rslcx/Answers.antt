@@ -1,4 +1,3 @@
-use borrow.Author.Rules.{rules}
 use Rattle.acts.proofs.Steadiness.{steady_then, steady_pc, done_did}
 use Rattle.acts.proofs.Heads.{return_steady}
 use Rattle.calls.specs.Returns.{rslcx_of}

@@ -1,4 +1,3 @@
-use borrow.Author.Rules.{rules}
 use Rattle.acts.proofs.Steadiness.{steady_then, done_did}
 use Rattle.acts.proofs.Heads.{save_steady}
 use Rattle.calls.specs.Saves.{call_of}

@@ -1,4 +1,3 @@
-use borrow.Author.Rules.{rules}
 use Rattle.calls.specs.Saves.{forbids}
 use Rattle.calls.proofs.saves.is_forbidden.Goals as goal
 

@@ -1,4 +1,3 @@
-use borrow.Author.Rules.{rules}
 use mathlib.Core.Path.{sym, ◌∙◌}
 use Rattle.registers.specs.Registers.{registers}
 use Rattle.acts.specs.Acts.{done_of}

@@ -1,4 +1,3 @@
-use borrow.Author.Rules.{rules}
 use Rattle.calls.specs.Saves.{bisr_then}
 use Rattle.calls.proofs.saves.set_after.Goals as goal
 

@@ -1,4 +1,3 @@
-use borrow.Author.Rules.{rules}
 use Rattle.calls.specs.Saves.{called_then}
 use Rattle.calls.proofs.saves.set_called.Goals as goal
 

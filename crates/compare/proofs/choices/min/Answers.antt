@@ -1,4 +1,3 @@
-use borrow.Author.Rules.{rules}
 use Rattle.compare.proofs.choices.min.Goals as goal
 
 pub returns-then-less : goal.returns-then-less

@@ -1,4 +1,3 @@
-use borrow.Author.Rules.{rules}
 use Rattle.compare.proofs.choices.min_u.Goals as goal
 
 pub returns-then-less_u : goal.returns-then-less_u

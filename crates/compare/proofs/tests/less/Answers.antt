@@ -1,4 +1,3 @@
-use borrow.Author.Rules.{rules}
 use mathlib.Core.Path.{ap₂}
 use lib.Signed.{lt_z}
 use Rattle.words.proofs.Values.{word}

@@ -1,4 +1,3 @@
-use borrow.Author.Rules.{rules}
 use Rattle.compare.proofs.tests.lt_u.Goals as goal
 
 pub returns : goal.returns

@@ -1,4 +1,3 @@
-use borrow.Author.Rules.{rules}
 use Rattle.compare.proofs.tests.ne.Goals as goal
 
 pub returns : goal.returns

@@ -1,4 +1,3 @@
-use borrow.Author.Rules.{rules}
 use mathlib.Core.Path.{refl}
 use Rattle.contexts.specs.Context.{lower_of}
 use Rattle.contexts.proofs.context.lower.Goals as goal

@@ -1,4 +1,3 @@
-use borrow.Author.Rules.{rules}
 use mathlib.Core.Path.{refl}
 use Rattle.contexts.specs.Context.{upper_of}
 use Rattle.contexts.proofs.context.upper.Goals as goal

@@ -1,4 +1,3 @@
-use borrow.Author.Rules.{rules}
 use Rattle.contexts.proofs.restore.load.Goals as goal
 
 pub returns-in-Upper : goal.returns-in-Upper

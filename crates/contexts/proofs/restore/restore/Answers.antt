@@ -1,4 +1,3 @@
-use borrow.Author.Rules.{rules}
 use mathlib.Core.Path.{sym, ap, ◌∙◌}
 use Rattle.areas.specs.declared.link.Place.TheVariants as place
 use Rattle.areas.proofs.Places.{spot_at_place}

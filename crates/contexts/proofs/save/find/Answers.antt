@@ -1,4 +1,3 @@
-use borrow.Author.Rules.{rules}
 use Rattle.contexts.proofs.Rooms.{room_none, room_some, room_outside}
 use Rattle.contexts.proofs.save.find.Goals as goal
 

@@ -1,4 +1,3 @@
-use borrow.Author.Rules.{rules}
 use mathlib.Core.Path.{sym, ◌∙◌}
 use Rattle.contexts.proofs.Saves.{save_stops, area_lies, spot_in, save_foreseen, save_made}
 use Rattle.contexts.proofs.save.save_lower.Goals as goal

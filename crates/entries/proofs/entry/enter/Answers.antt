@@ -1,4 +1,3 @@
-use borrow.Author.Rules.{rules}
 use Rattle.entries.specs.Entry.{enter_of}
 use Rattle.entries.proofs.entry.enter.Goals as goal
 

@@ -1,4 +1,3 @@
-use borrow.Author.Rules.{rules}
 use mathlib.Core.Path.{sym, ◌∙◌}
 use Rattle.contexts.specs.declared.context.Half.TheVariants.{Upper}
 use Rattle.contexts.proofs.Saves.{area_lies, spot_in, taken_is}

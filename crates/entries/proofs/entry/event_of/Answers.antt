@@ -1,4 +1,3 @@
-use borrow.Author.Rules.{rules}
 use Rattle.entries.proofs.entry.event_of.Goals as goal
 
 pub returns-in-Trap : goal.returns-in-Trap

@@ -1,4 +1,3 @@
-use borrow.Author.Rules.{rules}
 use Rattle.entries.proofs.entry.trap.Goals as goal
 
 pub returns : goal.returns

@@ -1,4 +1,3 @@
-use borrow.Author.Rules.{rules}
 use Rattle.entries.specs.Entry.{entered_of}
 use Rattle.entries.proofs.setting.enter.Goals as goal
 

@@ -1,4 +1,3 @@
-use borrow.Author.Rules.{rules}
 use Rattle.entries.specs.Entry.{interrupt_entry}
 use Rattle.entries.proofs.setting.enter_interrupt.Goals as goal
 

@@ -1,4 +1,3 @@
-use borrow.Author.Rules.{rules}
 use Rattle.entries.specs.Entry.{trap_entry}
 use Rattle.entries.proofs.setting.enter_trap.Goals as goal
 

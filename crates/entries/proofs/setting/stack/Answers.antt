@@ -1,4 +1,3 @@
-use borrow.Author.Rules.{rules}
 use Rattle.entries.specs.Entry.{stack_of}
 use Rattle.entries.proofs.setting.stack.Goals as goal
 

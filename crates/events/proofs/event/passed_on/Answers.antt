@@ -1,4 +1,3 @@
-use borrow.Author.Rules.{rules}
 use Rattle.events.proofs.event.passed_on.Goals as goal
 
 pub returns-in-Made : goal.returns-in-Made

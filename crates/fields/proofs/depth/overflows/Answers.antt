@@ -1,4 +1,3 @@
-use borrow.Author.Rules.{rules}
 use mathlib.Core.Path.{sym, ◌∙◌}
 use Rattle.fields.specs.Depth.{overflows_up}
 use Rattle.fields.proofs.Counters.{below}

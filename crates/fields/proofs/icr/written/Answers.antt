@@ -1,4 +1,3 @@
-use borrow.Author.Rules.{rules}
 use native.Mathlib.Omega.{arith}
 use Rattle.fields.specs.Icr.{icr_of}
 use Rattle.fields.proofs.icr.written.Goals as goal

@@ -1,4 +1,3 @@
-use borrow.Author.Rules.{rules}
 use Rattle.fields.proofs.Flags.{number_is_set}
 use Rattle.fields.specs.Pcxi.{pcxi_of}
 use native.Mathlib.Omega.{arith}

@@ -1,4 +1,3 @@
-use borrow.Author.Rules.{rules}
 use mathlib.Core.Path.{refl}
 use Rattle.fields.proofs.Flags.{number_le}
 use Rattle.fields.proofs.psw.bit_of.Goals as goal

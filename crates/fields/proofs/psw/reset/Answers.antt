@@ -1,4 +1,3 @@
-use borrow.Author.Rules.{rules}
 use Rattle.fields.specs.Psw.{status_of, reset_of}
 use Rattle.fields.proofs.Flags.{number_is_set}
 use native.Mathlib.Omega.{arith}

@@ -1,4 +1,3 @@
-use borrow.Author.Rules.{rules}
 use Rattle.fields.proofs.Flags.{joined}
 use Rattle.fields.proofs.psw.sticky.Goals as goal
 

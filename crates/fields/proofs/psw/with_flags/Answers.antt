@@ -1,4 +1,3 @@
-use borrow.Author.Rules.{rules}
 use Rattle.words.specs.Bits.{bit}
 use Rattle.fields.specs.Field.{is_set}
 use Rattle.fields.specs.Psw.{status_of, flagged_of}

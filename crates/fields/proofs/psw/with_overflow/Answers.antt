@@ -1,4 +1,3 @@
-use borrow.Author.Rules.{rules}
 use Rattle.fields.specs.Psw.{overflowed_of}
 use Rattle.fields.proofs.psw.with_overflow.Goals as goal
 

@@ -1,4 +1,3 @@
-use borrow.Author.Rules.{rules}
 use mathlib.Core.Path.{refl}
 use Rattle.fields.specs.Request.{cleared_of}
 use Rattle.fields.proofs.request.cleared.Goals as goal

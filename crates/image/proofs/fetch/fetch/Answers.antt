@@ -1,4 +1,4 @@
-use Rattle.std.proofs.Common.{◌<◌, sym, ap, ◌∙◌, subst, arith, rules}
+use Rattle.std.proofs.Common.{◌<◌, sym, ap, ◌∙◌, subst, arith}
 use Rattle.image.specs.Rest.{rest_of}
 use Rattle.image.specs.Fetch.{FetchSays}
 use Rattle.image.specs.declared.fetch.Fetched.TheVariants.{Found}
@@ -6,9 +6,6 @@ use Rattle.image.proofs.Images.{image_right}
 use Rattle.image.proofs.Marking.{no_marks}
 use Rattle.image.proofs.Fetches.{rest_bounds, first_fields, fetch_none, fetch_first, fetch_says}
 use Rattle.image.proofs.fetch.fetch.Goals as goal
-
-pub slice_bounds-rest_at-end : goal.slice_bounds-rest_at-end
-slice_bounds-rest_at-end c = search rules
 
 pub rest_at-found-requires : goal.rest_at-found-requires
 rest_at-found-requires c = (c.requires, no_marks _ 1)

@@ -1,4 +1,4 @@
-use Rattle.std.proofs.Common.{arith, rules}
+use Rattle.std.proofs.Common.{arith}
 use Rattle.image.proofs.Indices.{index_wrapped}
 use Rattle.image.proofs.fetch.index_from.Goals as goal
 

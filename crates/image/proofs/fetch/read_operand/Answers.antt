@@ -1,4 +1,3 @@
-use Rattle.std.proofs.Common.{rules}
 use Rattle.image.specs.Fetch.{instruction_at}
 use Rattle.image.proofs.fetch.read_operand.Goals as goal
 

@@ -1,9 +1,6 @@
-use Rattle.std.proofs.Common.{◌≡◌, ◌-◌, ◌<◌, ◌∙◌, arith}
-use native.Mathlib.Nat.{sub-zero}
+use Rattle.std.proofs.Common.{◌≡◌, ◌-◌, ◌<◌}
 use Rattle.image.specs.Table.{entries_of}
 use Rattle.image.specs.Rest.{rest_from, rest_of, entry_from, entry_of}
-use Rattle.image.proofs.Images.{image_right}
-use Rattle.image.proofs.Rests.{turn_here, turn_past, turn_end, entry_here, entry_past, entry_end}
 use Rattle.image.proofs.fetch.rest_at.Given as goal
 
 abbrev pub invariant-loop-r : goal.invariant-loop-r

@@ -1,4 +1,4 @@
-use Rattle.std.proofs.Common.{◌∙◌, arith, rules}
+use Rattle.std.proofs.Common.{◌∙◌, arith}
 use Rattle.image.proofs.Images.{image_right}
 use Rattle.image.proofs.Marking.{whole, outside, inside, few, left, walk_marked}
 use Rattle.image.proofs.fetch.rest_in.Goals as goal
@@ -12,9 +12,6 @@ overflow_mul-e c =
     let w = whole _ (image_right c.args.image.now p.0) _ p.2 c.read_entry-e.result c.read_entry-e.ensures in
     omega (arith, w.1)
 
-pub wrapping_sub_u32-requires : goal.wrapping_sub_u32-requires
-wrapping_sub_u32-requires c = search rules
-
 pub returns-then-e-wrapping_sub_u32 : goal.returns-then-e-wrapping_sub_u32
 returns-then-e-wrapping_sub_u32 c =
     let p = c.requires in
@@ -25,18 +22,6 @@ start_of-s-requires c =
     let p = c.requires in
     let i = inside _ (image_right c.args.image.now p.0) _ p.2 c.read_entry-e.result c.read_entry-e.ensures _ _ (omega arith) (omega arith) c.wrapping_sub_u32.ensures.value c.if-e-wrapping_sub_u32.false in
     (p.0, p.1, p.2, c.read_entry-e.ensures, i)
-
-pub overflow_cast-e : goal.overflow_cast-e
-overflow_cast-e c = search rules
-
-pub overflow_cast-s : goal.overflow_cast-s
-overflow_cast-s c = search rules
-
-pub overflow_mul-s : goal.overflow_mul-s
-overflow_mul-s c = search rules
-
-pub overflow_add-e : goal.overflow_add-e
-overflow_add-e c = search rules
 
 pub overflow_sub-e : goal.overflow_sub-e
 overflow_sub-e c =

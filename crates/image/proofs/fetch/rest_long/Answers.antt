@@ -1,7 +1,6 @@
-use Rattle.std.proofs.Common.{◌≡◌, ◌-◌, ◌<◌, ◌∙◌, arith, rules}
+use Rattle.std.proofs.Common.{◌∙◌, arith}
 use native.Mathlib.Nat.{sub-zero}
-use Rattle.image.specs.Table.{entries_of}
-use Rattle.image.specs.Rest.{rest_from, rest_of}
+use Rattle.image.specs.Rest.{rest_of}
 use Rattle.image.proofs.Images.{image_right}
 use Rattle.image.proofs.Long.{index_here, index_past}
 use Rattle.image.proofs.Rests.{turn_here, turn_past, turn_end}
@@ -16,24 +15,6 @@ overflow_cast-i c = let g = image_right c.args.image.now c.requires.0 in omega (
 
 pub read_entry-e-requires : goal.read_entry-e-requires
 read_entry-e-requires c = let g = image_right c.args.image.now c.requires.0 in omega (arith, g.table.counted.whole, c.loop-e.invariant.0)
-
-pub index_from-k-requires : goal.index_from-k-requires
-index_from-k-requires c = search rules
-
-pub overflow_sub-result : goal.overflow_sub-result
-overflow_sub-result c = search rules
-
-pub overflow_cast-result : goal.overflow_cast-result
-overflow_cast-result c = search rules
-
-pub overflow_cast-result-then-k-e : goal.overflow_cast-result-then-k-e
-overflow_cast-result-then-k-e c = search rules
-
-pub overflow_mul-result : goal.overflow_mul-result
-overflow_mul-result c = search rules
-
-pub overflow_add-result : goal.overflow_add-result
-overflow_add-result c = search rules
 
 pub returns-then-k-e : goal.returns-then-k-e
 returns-then-k-e c =

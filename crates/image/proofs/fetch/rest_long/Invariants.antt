@@ -1,10 +1,6 @@
-use Rattle.std.proofs.Common.{◌≡◌, ◌-◌, ◌<◌, ◌∙◌, arith, rules}
-use native.Mathlib.Nat.{sub-zero}
+use Rattle.std.proofs.Common.{◌≡◌, ◌-◌, ◌<◌}
 use Rattle.image.specs.Table.{entries_of}
 use Rattle.image.specs.Rest.{rest_from, rest_of}
-use Rattle.image.proofs.Images.{image_right}
-use Rattle.image.proofs.Long.{index_here, index_past}
-use Rattle.image.proofs.Rests.{turn_here, turn_past, turn_end}
 use Rattle.image.proofs.fetch.rest_long.Given as goal
 
 abbrev pub invariant-loop-e : goal.invariant-loop-e

@@ -1,41 +1,17 @@
-use Rattle.std.proofs.Common.{sym, ◌∙◌, arith, rules}
+use Rattle.std.proofs.Common.{sym, ◌∙◌, arith}
 use Rattle.image.proofs.Images.{image_right}
 use Rattle.image.proofs.Marking.{first_begins, start_marked, start_past, start_other, start_unmarked}
 use Rattle.image.proofs.fetch.start_of.Goals as goal
-
-pub bias_of-requires : goal.bias_of-requires
-bias_of-requires c = search rules
 
 pub overflow_add-i : goal.overflow_add-i
 overflow_add-i c =
     let p = c.requires in
     omega (arith, (image_right c.args.image.now p.0).table.counted.most, p.2)
 
-pub slot_of-slot-requires : goal.slot_of-slot-requires
-slot_of-slot-requires c = search rules
-
-pub offset_bounds-marks-slot : goal.offset_bounds-marks-slot
-offset_bounds-marks-slot c = search rules
-
-pub bounds-marks-slot : goal.bounds-marks-slot
-bounds-marks-slot c = search rules
-
-pub mark_entry-requires : goal.mark_entry-requires
-mark_entry-requires c = search rules
-
 pub overflow_add-i-then-slot-marks : goal.overflow_add-i-then-slot-marks
 overflow_add-i-then-slot-marks c =
     let p = c.requires in
     omega (arith, (image_right c.args.image.now p.0).table.counted.most, p.2)
-
-pub mark_address-requires : goal.mark_address-requires
-mark_address-requires c = search rules
-
-pub mark_index-requires : goal.mark_index-requires
-mark_index-requires c = search rules
-
-pub mark_address-requires-then-mark_address-pc : goal.mark_address-requires-then-mark_address-pc
-mark_address-requires-then-mark_address-pc c = search rules
 
 pub returns-then-mark_address-pc : goal.returns-then-mark_address-pc
 returns-then-mark_address-pc c =

@@ -1,6 +1,4 @@
-use Rattle.std.proofs.Common.{◌≡◌, ◌+◌, ◌-◌, ◌*◌, ◌≤◌, sym, ◌∙◌, arith, rules}
-use Rattle.image.specs.Lengths.{address_after}
-use Rattle.image.specs.Rest.{body_walk}
+use Rattle.std.proofs.Common.{◌+◌, sym, ◌∙◌, arith}
 use Rattle.image.proofs.Addresses.{after_none, after_less, after_plus}
 use Rattle.image.proofs.Walks.{walk_before, walk_start, turn_found, turn_on, turn_end}
 use Rattle.image.proofs.fetch.walk_body.Goals as goal
@@ -28,9 +26,6 @@ returns-then-pc-here-2 c = turn_found _ _ _ _ _ _ (omega arith) (sym c.if-pc-her
 
 pub bounds-image-byte : goal.bounds-image-byte
 bounds-image-byte c = omega arith
-
-pub length_of-here-requires : goal.length_of-here-requires
-length_of-here-requires c = search rules
 
 pub overflow_add-here : goal.overflow_add-here
 overflow_add-here c = omega (arith, c.loop-k.invariant.1, after_plus c.loop-k.k c.args.image.now c.args.at c.args.from, after_less (c.loop-k.k + 1) c.args.n c.args.image.now c.args.at c.args.from (omega arith), c.length_of-here.ensures, c.requires.2)

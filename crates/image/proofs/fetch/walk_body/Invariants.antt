@@ -1,8 +1,6 @@
-use Rattle.std.proofs.Common.{◌≡◌, ◌+◌, ◌-◌, ◌*◌, ◌≤◌, sym, ◌∙◌, arith, rules}
+use Rattle.std.proofs.Common.{◌≡◌, ◌+◌, ◌-◌, ◌*◌, ◌≤◌}
 use Rattle.image.specs.Lengths.{address_after}
 use Rattle.image.specs.Rest.{body_walk}
-use Rattle.image.proofs.Addresses.{after_none, after_less, after_plus}
-use Rattle.image.proofs.Walks.{walk_before, walk_start, turn_found, turn_on, turn_end}
 use Rattle.image.proofs.fetch.walk_body.Given as goal
 
 abbrev pub invariant-loop-k : goal.invariant-loop-k

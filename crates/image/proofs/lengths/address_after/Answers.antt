@@ -1,5 +1,4 @@
-use Rattle.std.proofs.Common.{◌≡◌, ◌+◌, ◌-◌, ◌*◌, ◌≤◌, get_or, sym, ◌∙◌, arith, rules}
-use Rattle.image.specs.Lengths.{address_after}
+use Rattle.std.proofs.Common.{◌≡◌, ◌+◌, ◌*◌, get_or, sym, ◌∙◌, arith}
 use Rattle.image.proofs.Addresses.{length_says, after_none, after_high, after_plus}
 use Rattle.image.proofs.lengths.address_after.Goals as goal
 
@@ -17,9 +16,6 @@ overflow_add-at c = omega arith
 
 pub bounds-image-at : goal.bounds-image-at
 bounds-image-at c = omega arith
-
-pub length_of-requires : goal.length_of-requires
-length_of-requires c = search rules
 
 pub overflow_cast-here : goal.overflow_cast-here
 overflow_cast-here c = omega (arith, c.length_of.ensures, (length_says (get_or c.args.image.now (c.args.at + 8 * c.loop-k.k) 0)).high)

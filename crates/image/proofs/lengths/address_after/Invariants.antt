@@ -1,6 +1,5 @@
-use Rattle.std.proofs.Common.{◌≡◌, ◌+◌, ◌-◌, ◌*◌, ◌≤◌, get_or, sym, ◌∙◌, arith, rules}
+use Rattle.std.proofs.Common.{◌≡◌, ◌-◌, ◌≤◌}
 use Rattle.image.specs.Lengths.{address_after}
-use Rattle.image.proofs.Addresses.{length_says, after_none, after_high, after_plus}
 use Rattle.image.proofs.lengths.address_after.Given as goal
 
 abbrev pub invariant-loop-k : goal.invariant-loop-k

@@ -1,6 +1,4 @@
-use Rattle.std.proofs.Common.{◌≡◌, ◌+◌, ◌-◌, ◌≤◌, sym, ◌∙◌, arith, rules}
-use Rattle.image.specs.Lengths.{address_after}
-use Rattle.image.specs.Marks.{body_marks, Marked}
+use Rattle.std.proofs.Common.{◌≡◌, ◌+◌, sym, ◌∙◌, arith}
 use Rattle.image.proofs.Addresses.{after_none, after_plus, after_less}
 use Rattle.image.proofs.Images.{image_right}
 use Rattle.image.proofs.Marking.{body_none, body_more, whole, begins_there}
@@ -8,12 +6,6 @@ use Rattle.image.proofs.marks.mark_body.Goals as goal
 
 pub read_entry-e-requires : goal.read_entry-e-requires
 read_entry-e-requires c = let g = image_right c.args.image.now c.requires.0 in omega (arith, g.table.counted.whole, c.requires.1)
-
-pub overflow_cast-at : goal.overflow_cast-at
-overflow_cast-at c = search rules
-
-pub bias_of-bias-requires : goal.bias_of-bias-requires
-bias_of-bias-requires c = search rules
 
 pub loop-k-init : goal.loop-k-init
 loop-k-init c = (omega arith, sym (after_none _ _ _), c.requires.2, body_none _ _ _ _)
@@ -23,17 +15,11 @@ overflow_add-i c =
     let p = c.requires in
     omega (arith, (image_right c.args.image.now p.0).table.counted.most, p.1)
 
-pub slot_of-requires : goal.slot_of-requires
-slot_of-requires c = search rules
-
 pub put_mark-requires : goal.put_mark-requires
 put_mark-requires c =
     let p = c.requires in
     let l = c.loop-k.invariant in
     (p.0, begins_there _ _ p.1 c.read_entry-e.result c.read_entry-e.ensures _ _ c.loop-k-test.true l.1, l.2)
-
-pub overflow_cast-k : goal.overflow_cast-k
-overflow_cast-k c = search rules
 
 pub overflow_mul-k : goal.overflow_mul-k
 overflow_mul-k c =
@@ -52,9 +38,6 @@ bounds-image-at c =
     let p = c.requires in
     let w = whole _ (image_right c.args.image.now p.0) _ p.1 c.read_entry-e.result c.read_entry-e.ensures in
     omega (arith, w.2, c.loop-k-test.true)
-
-pub length_of-here-requires : goal.length_of-here-requires
-length_of-here-requires c = search rules
 
 pub overflow_add-here : goal.overflow_add-here
 overflow_add-here c =

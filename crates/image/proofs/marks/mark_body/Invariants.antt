@@ -1,9 +1,6 @@
-use Rattle.std.proofs.Common.{◌≡◌, ◌+◌, ◌-◌, ◌≤◌, sym, ◌∙◌, arith, rules}
+use Rattle.std.proofs.Common.{◌≡◌, ◌-◌, ◌≤◌}
 use Rattle.image.specs.Lengths.{address_after}
 use Rattle.image.specs.Marks.{body_marks, Marked}
-use Rattle.image.proofs.Addresses.{after_none, after_plus, after_less}
-use Rattle.image.proofs.Images.{image_right}
-use Rattle.image.proofs.Marking.{body_none, body_more, whole, begins_there}
 use Rattle.image.proofs.marks.mark_body.Given as goal
 
 abbrev pub invariant-loop-k : goal.invariant-loop-k

@@ -1,15 +1,11 @@
-use Rattle.std.proofs.Common.{◌≡◌, ◌-◌, ◌≤◌, arith, rules}
+use Rattle.std.proofs.Common.{◌≡◌, arith}
 use Rattle.image.specs.Table.{entries_of}
-use Rattle.image.specs.Marks.{image_marks, Marked}
 use Rattle.image.proofs.Images.{image_right}
 use Rattle.image.proofs.Marking.{image_none, image_more}
 use Rattle.image.proofs.marks.mark_image.Goals as goal
 
 pub word_at-n-requires : goal.word_at-n-requires
 word_at-n-requires c = let g = image_right c.args.image.now c.requires.0 in omega (arith, g.table.counted.word)
-
-pub shift_for-shift-requires : goal.shift_for-shift-requires
-shift_for-shift-requires c = search rules
 
 pub loop-i-init : goal.loop-i-init
 loop-i-init c = (c.word_at-n.ensures, c.requires.1, omega arith, image_none _ _ _)

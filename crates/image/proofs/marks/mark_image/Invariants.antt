@@ -1,8 +1,6 @@
-use Rattle.std.proofs.Common.{◌≡◌, ◌-◌, ◌≤◌, arith, rules}
+use Rattle.std.proofs.Common.{◌≡◌, ◌-◌, ◌≤◌}
 use Rattle.image.specs.Table.{entries_of}
 use Rattle.image.specs.Marks.{image_marks, Marked}
-use Rattle.image.proofs.Images.{image_right}
-use Rattle.image.proofs.Marking.{image_none, image_more}
 use Rattle.image.proofs.marks.mark_image.Given as goal
 
 abbrev pub invariant-loop-i : goal.invariant-loop-i

@@ -1,16 +1,7 @@
-use Rattle.std.proofs.Common.{sym, ◌∙◌, arith, rules}
+use Rattle.std.proofs.Common.{sym, ◌∙◌, arith}
 use Rattle.image.proofs.Images.{image_right}
 use Rattle.image.proofs.Marking.{mark_holds, put_marked, put_here, put_had, put_beyond}
 use Rattle.image.proofs.marks.put_mark.Goals as goal
-
-pub offset_bounds-marks-slot : goal.offset_bounds-marks-slot
-offset_bounds-marks-slot c = search rules
-
-pub bounds-marks-slot : goal.bounds-marks-slot
-bounds-marks-slot c = search rules
-
-pub mark_entry-requires : goal.mark_entry-requires
-mark_entry-requires c = search rules
 
 pub overflow_add-i : goal.overflow_add-i
 overflow_add-i c =
@@ -23,12 +14,6 @@ mark-requires c =
     let p = c.requires in
     let g = image_right c.args.image.now p.0 in
     (omega (arith, g.table.counted.most, p.1.0), omega (arith, (g.table.entries _ p.1.0).most, p.1.1))
-
-pub offset_bounds-marks-slot-then-mark_entry-i : goal.offset_bounds-marks-slot-then-mark_entry-i
-offset_bounds-marks-slot-then-mark_entry-i c = search rules
-
-pub bounds-marks-slot-then-mark_entry-i : goal.bounds-marks-slot-then-mark_entry-i
-bounds-marks-slot-then-mark_entry-i c = search rules
 
 pub returns-then-mark_entry-i : goal.returns-then-mark_entry-i
 returns-then-mark_entry-i c =

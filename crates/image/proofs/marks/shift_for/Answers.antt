@@ -1,16 +1,9 @@
-use Rattle.std.proofs.Common.{◌≡◌, suc, ◌+◌, ◌-◌, ◌≤◌, refl, ◌∙◌, arith, rules}
-use Rattle.image.specs.Marks.{shift_from, shift_of}
+use Rattle.std.proofs.Common.{◌≡◌, suc, ◌+◌, ◌-◌, refl, ◌∙◌, arith}
 use Rattle.image.proofs.Marking.{shift_found, shift_more, shift_end}
 use Rattle.image.proofs.marks.shift_for.Goals as goal
 
 pub loop-shift-init : goal.loop-shift-init
 loop-shift-init c = (omega arith, refl)
-
-pub overflow_cast-shift : goal.overflow_cast-shift
-overflow_cast-shift c = search rules
-
-pub overflow_shr-bytes : goal.overflow_shr-bytes
-overflow_shr-bytes c = search rules
 
 pub returns-then-bytes-shift-lt4080 : goal.returns-then-bytes-shift-lt4080
 returns-then-bytes-shift-lt4080 c =

@@ -1,6 +1,5 @@
-use Rattle.std.proofs.Common.{◌≡◌, suc, ◌+◌, ◌-◌, ◌≤◌, refl, ◌∙◌, arith, rules}
+use Rattle.std.proofs.Common.{◌≡◌, ◌-◌, ◌≤◌}
 use Rattle.image.specs.Marks.{shift_from, shift_of}
-use Rattle.image.proofs.Marking.{shift_found, shift_more, shift_end}
 use Rattle.image.proofs.marks.shift_for.Given as goal
 
 abbrev pub invariant-loop-shift : goal.invariant-loop-shift

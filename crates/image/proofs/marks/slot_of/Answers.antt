@@ -1,12 +1,6 @@
-use Rattle.std.proofs.Common.{◌%◌, ◌^◌, div-le_self, arith, rules}
+use Rattle.std.proofs.Common.{◌%◌, ◌^◌, div-le_self, arith}
 use Rattle.image.specs.Marks.{slot_of}
 use Rattle.image.proofs.marks.slot_of.Goals as goal
-
-pub wrapping_add_u32-requires : goal.wrapping_add_u32-requires
-wrapping_add_u32-requires c = search rules
-
-pub overflow_shr-result : goal.overflow_shr-result
-overflow_shr-result c = search rules
 
 pub overflow_cast-result : goal.overflow_cast-result
 overflow_cast-result c = let d = div-le_self c.wrapping_add_u32.result (2 ^ (c.args.shift % 32)) in omega arith

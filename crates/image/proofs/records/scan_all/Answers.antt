@@ -1,8 +1,7 @@
-use Rattle.std.proofs.Common.{◌≡◌, ℕ, ◌+◌, ◌-◌, ◌*◌, ◌<◌, ◌≤◌, true, ◌&&◌, get_or, sym, refl, ◌∙◌, arith, rules}
+use Rattle.std.proofs.Common.{◌≡◌, ℕ, ◌+◌, ◌*◌, ◌<◌, ◌≤◌, true, get_or, sym, refl, ◌∙◌, arith}
 use Rattle.memory.specs.Word.{word_at}
 use Rattle.image.specs.Table.{bodies_of}
-use Rattle.image.specs.Records.{total_of, records_from, all_hold}
-use Rattle.image.specs.Marks.{long_from, long_only}
+use Rattle.image.specs.Records.{total_of}
 use Rattle.image.proofs.Tests.{word_record, word_short}
 use Rattle.image.proofs.Images.{right_of, sized}
 use Rattle.image.proofs.Long.{pass_first, pass_on, pass_end}
@@ -39,12 +38,6 @@ overflow_add-from-in-loop-k c = let s = sized c.args.image.now c.requires in let
 
 pub word_at-w-requires : goal.word_at-w-requires
 word_at-w-requires c = let s = sized c.args.image.now c.requires in let l = c.loop-k.invariant in let t = c.loop-k-test.true in omega (arith, l.0, l.1)
-
-pub word_holds-hold-requires : goal.word_holds-hold-requires
-word_holds-hold-requires c = search rules
-
-pub word_long-long-requires : goal.word_long-long-requires
-word_long-long-requires c = search rules
 
 pub overflow_add-k : goal.overflow_add-k
 overflow_add-k c = let s = sized c.args.image.now c.requires in let l = c.loop-k.invariant in let t = c.loop-k-test.true in omega (arith, l.1)

@@ -1,12 +1,7 @@
-use Rattle.std.proofs.Common.{◌≡◌, ℕ, ◌+◌, ◌-◌, ◌*◌, ◌<◌, ◌≤◌, true, ◌&&◌, get_or, sym, refl, ◌∙◌, arith, rules}
-use Rattle.memory.specs.Word.{word_at}
+use Rattle.std.proofs.Common.{◌≡◌, ◌+◌, ◌-◌, ◌*◌, ◌≤◌, ◌&&◌}
 use Rattle.image.specs.Table.{bodies_of}
 use Rattle.image.specs.Records.{total_of, records_from, all_hold}
 use Rattle.image.specs.Marks.{long_from, long_only}
-use Rattle.image.proofs.Tests.{word_record, word_short}
-use Rattle.image.proofs.Images.{right_of, sized}
-use Rattle.image.proofs.Long.{pass_first, pass_on, pass_end}
-use Rattle.image.proofs.Scanning.{held_first, held_on, held_end}
 use Rattle.image.proofs.records.scan_all.Given as goal
 
 abbrev pub invariant-loop-k : goal.invariant-loop-k

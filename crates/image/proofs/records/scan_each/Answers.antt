@@ -1,9 +1,9 @@
-use Rattle.std.proofs.Common.{◌≡◌, ◌+◌, ◌-◌, ◌*◌, ◌≤◌, eqb, length, sym, refl, ap, ◌∙◌, arith, rules}
+use Rattle.std.proofs.Common.{◌≡◌, ◌+◌, ◌*◌, eqb, sym, refl, ap, ◌∙◌, arith}
 use Rattle.std.specs.Prelude.{not}
 use Rattle.image.specs.Table.{bodies_of}
 use Rattle.image.proofs.Tests.{word_record}
 use Rattle.image.proofs.Images.{right_of, sized}
-use Rattle.image.proofs.Scanning.{Scanned, scanned_first, scanned_end, scanned_fault, scanned_word}
+use Rattle.image.proofs.Scanning.{scanned_first, scanned_end, scanned_fault, scanned_word}
 use Rattle.image.proofs.records.scan_each.Goals as goal
 
 pub word_at-n-requires : goal.word_at-n-requires
@@ -28,9 +28,6 @@ loop-at-init c =
 
 pub word_at-w-requires : goal.word_at-w-requires
 word_at-w-requires c = let s = sized c.args.image.now c.requires in let t = c.loop-at-test.true in let l = c.loop-at.invariant.1 in omega (arith, l.at_is, l.most, s.length_is)
-
-pub word_fits-requires : goal.word_fits-requires
-word_fits-requires c = search rules
 
 pub overflow_sub-result : goal.overflow_sub-result
 overflow_sub-result c = let l = c.loop-at.invariant in omega (arith, l.0, l.1.at_is)

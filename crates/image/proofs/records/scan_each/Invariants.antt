@@ -1,9 +1,6 @@
-use Rattle.std.proofs.Common.{◌≡◌, ◌+◌, ◌-◌, ◌*◌, ◌≤◌, eqb, length, sym, refl, ◌∙◌, arith, rules}
-use borrow.Author.Tests.{not-true}
+use Rattle.std.proofs.Common.{◌≡◌, ◌+◌, ◌-◌, ◌*◌, ◌≤◌, eqb, length}
 use Rattle.image.specs.Table.{bodies_of}
-use Rattle.image.proofs.Tests.{word_record}
-use Rattle.image.proofs.Images.{right_of, sized}
-use Rattle.image.proofs.Scanning.{Scanned, scanned_first, scanned_end, scanned_fault, scanned_word}
+use Rattle.image.proofs.Scanning.{Scanned}
 use Rattle.image.proofs.records.scan_each.Given as goal
 
 abbrev pub invariant-loop-at : goal.invariant-loop-at

@@ -1,15 +1,6 @@
-use Rattle.std.proofs.Common.{sym, refl, ◌∙◌, rules}
+use Rattle.std.proofs.Common.{sym, refl, ◌∙◌}
 use Rattle.image.proofs.Images.{image_table, image_records, image_exactly}
 use Rattle.image.proofs.records.scan_image.Goals as goal
-
-pub check_table-requires : goal.check_table-requires
-check_table-requires c = search rules
-
-pub enum_known-p : goal.enum_known-p
-enum_known-p c = search rules
-
-pub enum_told-1 : goal.enum_told-1
-enum_told-1 c = search rules
 
 pub scan_records-requires : goal.scan_records-requires
 scan_records-requires c = sym c.check_table.ensures.0 ∙ c.in-Holds.is

@@ -1,18 +1,8 @@
 use Rattle.image.proofs.Tests.{word_number, all_registers, with_immediate}
-use Rattle.std.proofs.Common.{rules}
 use Rattle.image.proofs.records.word_fits.Goals as goal
-
-pub is_operation-requires : goal.is_operation-requires
-is_operation-requires c = search rules
 
 pub returns-then-registers-w : goal.returns-then-registers-w
 returns-then-registers-w c = let w = c.args.w in rw (← word_number w, all_registers w _ c.if-registers-w.true) c.is_operation.ensures
-
-pub is_operation-requires-2 : goal.is_operation-requires-2
-is_operation-requires-2 c = search rules
-
-pub is_compare-requires : goal.is_compare-requires
-is_compare-requires c = search rules
 
 pub returns : goal.returns
 returns c =

@@ -1,7 +1,6 @@
-use Rattle.std.proofs.Common.{◌≡◌, ◌+◌, ◌-◌, ◌*◌, ◌≤◌, true, false, length, sym, refl, ◌∙◌, arith, rules}
+use Rattle.std.proofs.Common.{true, false, length, sym, refl, ◌∙◌, arith}
 use native.Mathlib.Nat.{sub-zero}
-use borrow.Author.Tests.{not-true, not-false}
-use Rattle.image.specs.Table.{range_end, entries_from}
+use Rattle.image.specs.Table.{range_end}
 use Rattle.image.proofs.Addresses.{after_none}
 use Rattle.image.proofs.Tests.{fits, holds_by}
 use Rattle.image.proofs.Tables.{turn_on, turn_fault, turn_end, turn_over}
@@ -21,9 +20,6 @@ overflow_cast-i c = omega arith
 
 pub read_entry-e-requires : goal.read_entry-e-requires
 read_entry-e-requires c = omega arith
-
-pub entry_fits-requires : goal.entry_fits-requires
-entry_fits-requires c = search rules
 
 pub overflow_add-result : goal.overflow_add-result
 overflow_add-result c = omega arith

@@ -1,10 +1,5 @@
-use Rattle.std.proofs.Common.{◌≡◌, ◌+◌, ◌-◌, ◌*◌, ◌≤◌, true, false, length, sym, refl, ◌∙◌, arith, rules}
-use native.Mathlib.Nat.{sub-zero}
-use borrow.Author.Tests.{not-true, not-false}
+use Rattle.std.proofs.Common.{◌≡◌, ◌+◌, ◌-◌, ◌*◌, ◌≤◌, length}
 use Rattle.image.specs.Table.{range_end, entries_from}
-use Rattle.image.proofs.Addresses.{after_none}
-use Rattle.image.proofs.Tests.{fits, holds_by}
-use Rattle.image.proofs.Tables.{turn_on, turn_fault, turn_end, turn_over}
 use Rattle.image.proofs.table.check_entries.Given as goal
 
 abbrev pub invariant-loop-i : goal.invariant-loop-i

@@ -1,4 +1,4 @@
-use Rattle.std.proofs.Common.{rules, le-ltb, lt-ltb}
+use Rattle.std.proofs.Common.{le-ltb, lt-ltb}
 use Rattle.image.specs.Table.{table_of}
 use Rattle.image.proofs.Tables.{table_exactly}
 use Rattle.image.proofs.table.check_table.Goals as goal

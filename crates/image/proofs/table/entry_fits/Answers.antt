@@ -1,4 +1,4 @@
-use Rattle.std.proofs.Common.{rules, eq-eqb, ne_eqb, le-leb}
+use Rattle.std.proofs.Common.{eq-eqb, ne_eqb, le-leb}
 use borrow.Author.Tests.{lt-leb}
 use Rattle.image.specs.Table.{entry_fits}
 use Rattle.image.proofs.table.entry_fits.Goals as goal
@@ -15,24 +15,9 @@ pub returns-then-e-gt65536 : goal.returns-then-e-gt65536
 unfolding entry_fits
 returns-then-e-gt65536 c = rw (eq-eqb _ _ c.if-e-ne0.false, le-leb _ _ c.if-e-lt1.false, lt-leb _ _ c.if-e-gt65536.true)
 
-pub overflow_cast-e : goal.overflow_cast-e
-overflow_cast-e c = search rules
-
 pub returns-then-e-start : goal.returns-then-e-start
 unfolding entry_fits
 returns-then-e-start c = rw (eq-eqb _ _ c.if-e-ne0.false, le-leb _ _ c.if-e-lt1.false, le-leb _ _ c.if-e-gt65536.false, ne_eqb _ _ c.if-e-start.true)
-
-pub overflow_cast-result : goal.overflow_cast-result
-overflow_cast-result c = search rules
-
-pub overflow_cast-result-2 : goal.overflow_cast-result-2
-overflow_cast-result-2 c = search rules
-
-pub overflow_mul-result : goal.overflow_mul-result
-overflow_mul-result c = search rules
-
-pub overflow_add-result : goal.overflow_add-result
-overflow_add-result c = search rules
 
 pub returns : goal.returns
 unfolding entry_fits

@@ -1,4 +1,3 @@
-use Rattle.std.proofs.Common.{rules}
 use Rattle.image.specs.Table.{entry_at}
 use Rattle.image.proofs.table.read_entry.Goals as goal
 

@@ -1,4 +1,3 @@
-use borrow.Author.Rules.{rules}
 use borrow.Author.Tests.{eq-eqb, ne_eqb, le-leb, lt-leb}
 use Rattle.inputs.specs.Checks.{apart_holds}
 use Rattle.inputs.proofs.checks.apart_holds.Goals as goal

@@ -1,4 +1,3 @@
-use borrow.Author.Rules.{rules}
 use mathlib.Core.Path.{refl}
 use Rattle.memory.specs.Memory.{lent}
 use Rattle.memory.proofs.Joined.{first_length_lem, second_length_lem}

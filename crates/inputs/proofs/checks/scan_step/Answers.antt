@@ -3,20 +3,7 @@ use Rattle.memory.specs.Memory.{lent}
 use Rattle.inputs.specs.Checks.{step_verdict}
 use Rattle.inputs.specs.declared.verdict.Verdict.TheVariants.{Refused}
 use Rattle.inputs.proofs.Verdicts.{step_exactly}
-use borrow.Author.Rules.{rules}
 use Rattle.inputs.proofs.checks.scan_step.Goals as goal
-
-pub check_windows-requires : goal.check_windows-requires
-check_windows-requires c = search rules
-
-pub enum_known-r : goal.enum_known-r
-enum_known-r c = search rules
-
-pub enum_told-1 : goal.enum_told-1
-enum_told-1 c = search rules
-
-pub try_code-requires : goal.try_code-requires
-try_code-requires c = search rules
 
 pub returns-in-Refused : goal.returns-in-Refused
 unfolding step_verdict

@@ -1,4 +1,3 @@
-use borrow.Author.Rules.{rules}
 use borrow.Author.Tests.{eq-eqb, ne_eqb}
 use Rattle.inputs.specs.Checks.{second_holds}
 use Rattle.inputs.proofs.checks.second_holds.Goals as goal

@@ -2,26 +2,7 @@ use mathlib.Core.Path.{◌≡◌, refl, ap, sym, ◌∙◌}
 use Rattle.inputs.specs.Checks.{image_said, image_verdict}
 use Rattle.inputs.specs.declared.verdict.Verdict.TheVariants.{Accepted, Refused}
 use Rattle.inputs.proofs.Verdicts.{accepted_long}
-use borrow.Author.Rules.{rules}
 use Rattle.inputs.proofs.checks.try_code.Goals as goal
-
-pub scan_image-s-requires : goal.scan_image-s-requires
-scan_image-s-requires c = search rules
-
-pub image_said-requires : goal.image_said-requires
-image_said-requires c = search rules
-
-pub enum_known-r : goal.enum_known-r
-enum_known-r c = search rules
-
-pub enum_told-1 : goal.enum_told-1
-enum_told-1 c = search rules
-
-pub check_pc-v-requires : goal.check_pc-v-requires
-check_pc-v-requires c = search rules
-
-pub long_told-requires : goal.long_told-requires
-long_told-requires c = search rules
 
 pub returns-in-Refused : goal.returns-in-Refused
 returns-in-Refused c =

@@ -1,4 +1,3 @@
-use borrow.Author.Rules.{rules}
 use Rattle.inputs.proofs.checks.try_lists.Goals as goal
 
 pub returns-in-Whole : goal.returns-in-Whole

@@ -1,4 +1,3 @@
-use borrow.Author.Rules.{rules}
 use mathlib.Core.Path.{sym, ◌∙◌}
 use Rattle.inputs.specs.Checks.{windows_verdict}
 use Rattle.inputs.proofs.Windows.{window_right, second_most}

@@ -1,4 +1,3 @@
-use borrow.Author.Rules.{rules}
 use borrow.Author.Tests.{le-leb, lt-leb, eq-eqb, ne_eqb}
 use Rattle.inputs.specs.Checks.{window_holds}
 use Rattle.inputs.proofs.checks.window_holds.Goals as goal

@@ -1,4 +1,4 @@
-use Rattle.std.proofs.Common.{sym, refl, rules}
+use Rattle.std.proofs.Common.{sym, refl}
 use Rattle.image.proofs.Marking.{unmarked_array}
 use Rattle.machine.proofs.Turns.{image_holds}
 use Rattle.machine.proofs.Guides.{marked}
@@ -12,12 +12,3 @@ slice_bounds-run_steps-end c = sym c.mark_image-shift.ensures.marked.size
 
 pub run_steps-requires : goal.run_steps-requires
 run_steps-requires c = record { ready = c.requires; guides = marked _ _ _ refl c.mark_image-shift.ensures.marked.marks_hold }
-
-pub shape_of-window : goal.shape_of-window
-shape_of-window c = search rules
-
-pub shape_of-window2 : goal.shape_of-window2
-shape_of-window2 c = search rules
-
-pub returns : goal.returns
-returns c = search rules

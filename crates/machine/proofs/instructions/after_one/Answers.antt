@@ -1,4 +1,3 @@
-use Rattle.std.proofs.Common.{rules}
 use Rattle.machine.proofs.instructions.after_one.Goals as goal
 
 pub returns-in-Made : goal.returns-in-Made

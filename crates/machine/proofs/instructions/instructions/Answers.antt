@@ -1,4 +1,4 @@
-use Rattle.std.proofs.Common.{◌∙◌, rules}
+use Rattle.std.proofs.Common.{◌∙◌}
 use Rattle.decisions.proofs.Beginnings.{traps}
 use Rattle.machine.proofs.Turns.{image_holds}
 use Rattle.machine.proofs.Walks.{stands_first, ends_after}

@@ -1,11 +1,8 @@
-use Rattle.std.proofs.Common.{◌≡◌, length, sym, refl, ◌∙◌, arith, rules}
-use borrow.Author.Tests.{not-false}
-use Rattle.memory.specs.Memory.{lent}
-use Rattle.registers.specs.Registers.{registers}
+use Rattle.std.proofs.Common.{sym, refl, ◌∙◌, arith}
 use Rattle.protection.specs.Range.{ranges_in}
 use Rattle.spans.proofs.Spans.{ahead_known, place_end, place_in}
 use Rattle.machine.proofs.Turns.{image_holds}
-use Rattle.machine.proofs.Walks.{Goes, walk_first, walk_is, walk_next, goes_first, goes_read, goes_index, goes_place, ends_stopped, ends_made}
+use Rattle.machine.proofs.Walks.{walk_first, walk_is, walk_next, goes_first, goes_read, goes_index, goes_place, ends_stopped, ends_made}
 use Rattle.machine.proofs.instructions.steady_steps.Goals as goal
 
 pub next_after-next-requires : goal.next_after-next-requires
@@ -19,12 +16,6 @@ pub loop-left-init : goal.loop-left-init
 loop-left-init c =
     let p = c.requires in
     ((refl, refl), goes_first _ _ _ _ _ _ _ (walk_first _ _ _ _ _ _ _ p.n_nonzero p.ready (ahead_known _ _ _ _ _ (image_holds _ _ _ p.ready.accepted) p.guides.all_long p.lies_ahead)) c.next_after-next.ensures)
-
-pub wrapping_add_u32-next-requires : goal.wrapping_add_u32-next-requires
-wrapping_add_u32-next-requires c = search rules
-
-pub overflow_cast-k : goal.overflow_cast-k
-overflow_cast-k c = search rules
 
 pub overflow_mul-k : goal.overflow_mul-k
 overflow_mul-k c = let g = c.loop-left.invariant.1 in omega (arith, g.stands, g.walk.inside, g.walk.span.lies.inside, c.well_formed.1.1.1.1.0.0)
@@ -41,21 +32,6 @@ execute_instruction-done-requires c =
     let w = g.walk in
     rw (goes_read _ _ _ _ _ _ _ g c.read_record-i.ensures) (w.span.fields _ w.inside _)
 
-pub ending_of-ending-requires : goal.ending_of-ending-requires
-ending_of-ending-requires c = search rules
-
-pub enum_told-1 : goal.enum_told-1
-enum_told-1 c = search rules
-
-pub enum_told-in_default : goal.enum_told-in_default
-enum_told-in_default c = search rules
-
-pub shape_of-window-in_default : goal.shape_of-window-in_default
-shape_of-window-in_default c = search rules
-
-pub shape_of-window2-in_default : goal.shape_of-window2-in_default
-shape_of-window2-in_default c = search rules
-
 pub returns-in_default : goal.returns-in_default
 returns-in_default c =
     let g = c.loop-left.invariant.1 in
@@ -65,38 +41,17 @@ returns-in_default c =
 pub overflow_sub-left : goal.overflow_sub-left
 overflow_sub-left c = let w = c.loop-left.invariant.1.walk in omega (arith, w.stands.some)
 
-pub shape_of-window-then-left-eq0 : goal.shape_of-window-then-left-eq0
-shape_of-window-then-left-eq0 c = search rules
-
-pub shape_of-window2-then-left-eq0 : goal.shape_of-window2-then-left-eq0
-shape_of-window2-then-left-eq0 c = search rules
-
 pub returns-then-left-eq0 : goal.returns-then-left-eq0
 returns-then-left-eq0 c =
     let g = c.loop-left.invariant.1 in
     let i = goes_read _ _ _ _ _ _ _ g c.read_record-i.ensures in
     ends_made _ _ _ _ _ g.walk.stands (walk_is _ _ _ _ _ _ _ g.walk i c.execute_instruction-done.ensures.performed) _ (sym c.ending_of-ending.ensures) c.in-Made.field-0 c.in-Made.is
 
-pub steady-requires : goal.steady-requires
-steady-requires c = search rules
-
-pub shape_of-window-then-not-steady : goal.shape_of-window-then-not-steady
-shape_of-window-then-not-steady c = search rules
-
-pub shape_of-window2-then-not-steady : goal.shape_of-window2-then-not-steady
-shape_of-window2-then-not-steady c = search rules
-
 pub returns-then-not-steady : goal.returns-then-not-steady
 returns-then-not-steady c =
     let g = c.loop-left.invariant.1 in
     let i = goes_read _ _ _ _ _ _ _ g c.read_record-i.ensures in
     ends_made _ _ _ _ _ g.walk.stands (walk_is _ _ _ _ _ _ _ g.walk i c.execute_instruction-done.ensures.performed) _ (sym c.ending_of-ending.ensures) c.in-Made.field-0 c.in-Made.is
-
-pub bounds-core-0 : goal.bounds-core-0
-bounds-core-0 c = search rules
-
-pub index_from-k-requires : goal.index_from-k-requires
-index_from-k-requires c = search rules
 
 pub loop-left-smaller-then-k-s : goal.loop-left-smaller-then-k-s
 loop-left-smaller-then-k-s c = let w = c.loop-left.invariant.1.walk in omega (arith, w.stands.some)

@@ -1,11 +1,8 @@
-use Rattle.std.proofs.Common.{◌≡◌, length, sym, refl, ◌∙◌, arith, rules}
-use borrow.Author.Tests.{not-false}
+use Rattle.std.proofs.Common.{◌≡◌, length}
 use Rattle.memory.specs.Memory.{lent}
 use Rattle.registers.specs.Registers.{registers}
 use Rattle.protection.specs.Range.{ranges_in}
-use Rattle.spans.proofs.Spans.{ahead_known, place_end, place_in}
-use Rattle.machine.proofs.Turns.{image_holds}
-use Rattle.machine.proofs.Walks.{Goes, walk_first, walk_is, walk_next, goes_first, goes_read, goes_index, goes_place, ends_stopped, ends_made}
+use Rattle.machine.proofs.Walks.{Goes}
 use Rattle.machine.proofs.instructions.steady_steps.Given as goal
 
 abbrev pub invariant-loop-left : goal.invariant-loop-left

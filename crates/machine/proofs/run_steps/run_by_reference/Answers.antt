@@ -1,8 +1,5 @@
-use Rattle.std.proofs.Common.{◌≡◌, length, sym, refl, ◌∙◌, arith, rules}
-use Rattle.memory.specs.Memory.{lent}
-use Rattle.registers.specs.Registers.{registers}
-use Rattle.protection.specs.Range.{ranges_in}
-use Rattle.machine.proofs.Loops.{Turn, turn_first, turn_interrupt, stop_interrupt, turn_instructions, stop_instructions, turn_end}
+use Rattle.std.proofs.Common.{sym, refl, ◌∙◌, arith}
+use Rattle.machine.proofs.Loops.{turn_first, turn_interrupt, stop_interrupt, turn_instructions, stop_instructions, turn_end}
 use Rattle.machine.proofs.run_steps.run_by_reference.Goals as goal
 
 pub loop-left-init : goal.loop-left-init

@@ -1,45 +1,24 @@
-use Rattle.std.proofs.Common.{sym, ◌∙◌, rules}
+use Rattle.std.proofs.Common.{sym, ◌∙◌}
 use Rattle.decisions.proofs.Known.{valid_of, bytes_of, joined_bytes}
 use Rattle.machine.proofs.Turns.{accepted_even}
 use Rattle.machine.proofs.Guides.{told_long}
 use Rattle.machine.proofs.Singles.{step_refused, step_told}
 use Rattle.machine.proofs.steps.step.Goals as goal
 
-pub bounds-registers-0 : goal.bounds-registers-0
-bounds-registers-0 c = search rules
-
-pub scan_step-tried-requires : goal.scan_step-tried-requires
-scan_step-tried-requires c = search rules
-
-pub enum_known-verdict : goal.enum_known-verdict
-enum_known-verdict c = search rules
-
-pub enum_told-1 : goal.enum_told-1
-enum_told-1 c = search rules
-
 pub step_accepted-requires : goal.step_accepted-requires
 step_accepted-requires c =
-    let e = sym c.scan_step-tried.ensures.verdict.0 ∙ c.in-Accepted.is in record { ready = record {
+    let e = sym c.scan_step-tried.ensures.verdict.0 ∙ c.in-Accepted.is in record {
+      ready = record {
         accepted = e;
         image = bytes_of c.shared_slice_known-1.given;
         valid = valid_of c.well_formed.1.1.1.1.1.0 (accepted_even _ _ _ e);
         bytes = joined_bytes c.args.window.now c.args.window2.now (bytes_of c.slice_known-1.given) (bytes_of c.slice_known-2-1.given);
-      }; all_long = told_long _ _ _ c.scan_step-tried.ensures.verdict.2 c.in-Accepted.is }
-
-pub shape_of-window-in-Refused : goal.shape_of-window-in-Refused
-shape_of-window-in-Refused c = search rules
-
-pub shape_of-window2-in-Refused : goal.shape_of-window2-in-Refused
-shape_of-window2-in-Refused c = search rules
+      };
+      all_long = told_long _ _ _ c.scan_step-tried.ensures.verdict.2 c.in-Accepted.is;
+    }
 
 pub returns-in-Refused : goal.returns-in-Refused
 returns-in-Refused c = let s = sym (step_refused _ _ _ _ _ _ (sym c.scan_step-tried.ensures.verdict.0 ∙ c.in-Refused.is)) in record { stepped = s; exactly = step_told _ _ _ _ _ s }
-
-pub shape_of-window-in-Accepted : goal.shape_of-window-in-Accepted
-shape_of-window-in-Accepted c = search rules
-
-pub shape_of-window2-in-Accepted : goal.shape_of-window2-in-Accepted
-shape_of-window2-in-Accepted c = search rules
 
 pub returns-in-Accepted : goal.returns-in-Accepted
 returns-in-Accepted c = let e = c.step_accepted.ensures in record { stepped = e; exactly = step_told _ _ _ _ _ e }

@@ -1,6 +1,4 @@
-use borrow.Author.Rules.{rules}
 use mathlib.Core.Path.{sym, ◌∙◌}
-use borrow.Author.Tests.{not-true, not-false}
 use Rattle.protection.proofs.Checks.{for_peripherals, to_peripherals, unasked, denied, allowed}
 use Rattle.protection.proofs.access.check_access.Goals as goal
 

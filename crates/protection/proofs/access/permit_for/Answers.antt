@@ -1,6 +1,4 @@
-use borrow.Author.Rules.{rules}
 use mathlib.Core.Path.{sym, ◌∙◌}
-use borrow.Author.Tests.{not-true, not-false}
 use Rattle.protection.proofs.Checks.{unnamed_above, unnamed_off, named}
 use Rattle.protection.proofs.access.permit_for.Goals as goal
 

@@ -1,4 +1,3 @@
-use borrow.Author.Rules.{rules}
 use mathlib.Core.Path.{refl}
 use Rattle.protection.specs.Range.{first_of}
 use native.Mathlib.Omega.{arith}

@@ -1,10 +1,7 @@
-use Prim.Native.Nat.{ℕ, ◌-◌, ◌≤◌}
-use mathlib.Core.Path.{◌≡◌, refl, subst, ◌∙◌}
-use lib.ListN.{length, get_or}
-use borrow.Author.Count.{below_none}
-use Rattle.protection.specs.Range.{no_range}
-use Rattle.protection.proofs.Ranges.{Below, put_length, turn, end}
-use native.Mathlib.Omega.{arith}
+use Prim.Native.Nat.{◌-◌, ◌≤◌}
+use mathlib.Core.Path.{◌≡◌}
+use lib.ListN.{length}
+use Rattle.protection.proofs.Ranges.{Below}
 use Rattle.protection.proofs.range.flat.Given as goal
 
 abbrev pub invariant-loop-k : goal.invariant-loop-k

@@ -1,8 +1,7 @@
-use borrow.Author.Rules.{rules}
 use mathlib.Core.Path.{◌≡◌, sym, ◌∙◌}
 use mathlib.Core.Bool.{true, false, ◌&&◌, and-true, and-false}
 use lib.Dec.{ltb, leb}
-use borrow.Author.Tests.{not-true, not-false, lt-leb, le-leb}
+use borrow.Author.Tests.{lt-leb, le-leb}
 use Rattle.memory.specs.declared.address.Address.{Address}
 use Rattle.protection.specs.Range.{enables, permits}
 use Rattle.protection.specs.declared.range.Range.{Range}

@@ -1,9 +1,5 @@
-use borrow.Author.Rules.{rules}
-use Prim.Native.Nat.{ℕ, ◌+◌, ◌-◌, ◌≤◌, ◌<◌}
 use mathlib.Core.Path.{◌≡◌}
-use mathlib.Core.Bool.{false}
 use borrow.Author.Count.{below_none, below_more}
-use Rattle.protection.specs.Range.{ranges_in, permits_at}
 use Rattle.protection.proofs.Searches.{none, lowest_is, seen, found}
 use native.Mathlib.Omega.{arith}
 use Rattle.protection.specs.declared.range.Permit.TheVariants.{Unnamed, By}
@@ -22,9 +18,10 @@ pub returns-then-n-eq32 : goal.returns-then-n-eq32
 returns-then-n-eq32 c =
     let l = c.loop-i in
     let e : l.i ≡ 4 =
-        elim c.if-i-eq4.branch [
-        then-i-eq4 w ↦ w.if-i-eq4.true
-        | else-i-eq4+then-permitting w ↦ absurd (omega (arith, c.first-from.ensures.1, w.n-is, c.if-n-eq32.true, l.invariant.0, w.if-i-eq4.false)) ] in
+    elim c.if-i-eq4.branch [
+      | then-i-eq4 w ↦ w.if-i-eq4.true
+      | else-i-eq4+then-permitting w ↦ absurd (omega (arith, c.first-from.ensures.1, w.n-is, c.if-n-eq32.true, l.invariant.0, w.if-i-eq4.false))
+    ] in
     lowest_is _ _ _ _ Unnamed (rw (← c.first-from.ensures.0) (none _ _ _ 4 _ (λ j h. l.invariant.1 j (omega arith))))
 
 pub returns : goal.returns
@@ -32,8 +29,9 @@ returns c =
     let f = c.first-from.ensures in
     lowest_is _ _ _ _ (By c.if-i-eq4.n)
     (elim c.if-i-eq4.branch [
-     then-i-eq4 w ↦ absurd (c.if-n-eq32.false w.n-is)
-     | else-i-eq4+then-permitting w ↦ found _ _ _ _ _ _ _ f.0 (omega (arith, c.loop-i.invariant.0, w.if-i-eq4.false)) w.n-is (seen _ _ _ _ _ _ _ (omega (arith, f.1, c.loop-i.invariant.0, w.if-i-eq4.false)) w.range_at.ensures w.permitting.ensures w.if-permitting.true) c.loop-i.invariant.1 ])
+      | then-i-eq4 w ↦ absurd (c.if-n-eq32.false w.n-is)
+      | else-i-eq4+then-permitting w ↦ found _ _ _ _ _ _ _ f.0 (omega (arith, c.loop-i.invariant.0, w.if-i-eq4.false)) w.n-is (seen _ _ _ _ _ _ _ (omega (arith, f.1, c.loop-i.invariant.0, w.if-i-eq4.false)) w.range_at.ensures w.permitting.ensures w.if-permitting.true) c.loop-i.invariant.1
+    ])
 
 pub loop-i-init : goal.loop-i-init
 loop-i-init c = (omega arith, below_none _)

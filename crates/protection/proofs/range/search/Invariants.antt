@@ -1,13 +1,7 @@
-use borrow.Author.Rules.{rules}
 use Prim.Native.Nat.{ℕ, ◌+◌, ◌-◌, ◌≤◌, ◌<◌}
 use mathlib.Core.Path.{◌≡◌}
 use mathlib.Core.Bool.{false}
-use mathlib.Core.Logic.{⊎_elim}
-use borrow.Author.Count.{below_none, below_more}
 use Rattle.protection.specs.Range.{ranges_in, permits_at}
-use Rattle.protection.proofs.Searches.{none, lowest_is, seen, found}
-use native.Mathlib.Omega.{arith}
-use Rattle.protection.specs.declared.range.Permit.TheVariants.{Unnamed, By}
 use Rattle.protection.proofs.range.search.Given as goal
 
 abbrev pub invariant-loop-i : goal.invariant-loop-i

@@ -1,36 +1,15 @@
-use Rattle.std.proofs.Common.{sym, ◌∙◌, arith, rules}
+use Rattle.std.proofs.Common.{sym, ◌∙◌, arith}
 use Rattle.spans.proofs.Spans.{lies, by_mark, marked_none, marked_other, marked_outside, marked_inside}
 use Rattle.spans.proofs.index.index_marked.Goals as goal
-
-pub slot_of-slot-requires : goal.slot_of-slot-requires
-slot_of-slot-requires c = search rules
 
 pub returns-then-marks-slot : goal.returns-then-marks-slot
 returns-then-marks-slot c = let b = (lies c.requires.0).body c.requires.1 in marked_none _ _ _ _ _ _ c.slot_of-slot.ensures b.entry b.is c.if-marks-slot.true
 
-pub offset_bounds-marks-slot : goal.offset_bounds-marks-slot
-offset_bounds-marks-slot c = search rules
-
-pub bounds-marks-slot : goal.bounds-marks-slot
-bounds-marks-slot c = search rules
-
-pub mark_entry-requires : goal.mark_entry-requires
-mark_entry-requires c = search rules
-
 pub returns-then-mark_entry-s : goal.returns-then-mark_entry-s
 returns-then-mark_entry-s c = marked_other _ _ _ _ _ _ c.slot_of-slot.ensures (λ e. c.if-mark_entry-s.true (c.mark_entry.ensures ∙ e))
 
-pub mark_index-requires : goal.mark_index-requires
-mark_index-requires c = search rules
-
-pub wrapping_sub_u32-k-requires : goal.wrapping_sub_u32-k-requires
-wrapping_sub_u32-k-requires c = search rules
-
 pub returns-then-s-k : goal.returns-then-s-k
 returns-then-s-k c = let p = c.requires in marked_outside _ _ _ _ _ _ c.slot_of-slot.ensures _ (omega arith) ((lies p.0).body p.1).few (lies p.0).most (c.wrapping_sub_u32-k.ensures.value ∙ c.mark_index.ensures) c.if-s-k.true
-
-pub mark_address-requires : goal.mark_address-requires
-mark_address-requires c = search rules
 
 pub index_on-requires : goal.index_on-requires
 index_on-requires c =

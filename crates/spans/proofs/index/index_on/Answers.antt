@@ -1,7 +1,6 @@
-use Rattle.std.proofs.Common.{◌≡◌, ◌+◌, ◌-◌, ◌*◌, get_or, sym, refl, ◌∙◌, arith, rules}
+use Rattle.std.proofs.Common.{◌+◌, ◌*◌, get_or, sym, refl, ◌∙◌, arith}
 use Rattle.image.proofs.Addresses.{length_says}
-use Rattle.spans.specs.Spans.{index_on}
-use Rattle.spans.proofs.Spans.{lies, Here, here_below, here_up, index_end, index_past, index_here, index_up, index_tells}
+use Rattle.spans.proofs.Spans.{lies, here_below, here_up, index_end, index_past, index_here, index_up, index_tells}
 use Rattle.spans.proofs.index.index_on.Goals as goal
 
 pub loop-a-init : goal.loop-a-init
@@ -9,9 +8,6 @@ loop-a-init c = (record { within = omega (arith, c.requires.1); at = c.requires.
 
 pub returns-then-j-s : goal.returns-then-j-s
 returns-then-j-s c = index_tells _ _ _ _ (omega (arith, c.requires.1)) _ (index_end _ _ _ _ (omega (arith, c.if-j-s.true)) ∙ c.loop-a.invariant.1)
-
-pub overflow_cast-j : goal.overflow_cast-j
-overflow_cast-j c = search rules
 
 pub overflow_mul-j : goal.overflow_mul-j
 overflow_mul-j c = omega (arith, c.loop-a.invariant.0.within, (lies c.requires.0).most)
@@ -21,9 +17,6 @@ overflow_add-at c = omega (arith, c.loop-a.invariant.0.within, (lies c.requires.
 
 pub bounds-image-at : goal.bounds-image-at
 bounds-image-at c = omega (arith, c.loop-a.invariant.0.within, c.if-j-s.false, (lies c.requires.0).inside)
-
-pub length_of-a-requires : goal.length_of-a-requires
-length_of-a-requires c = search rules
 
 pub overflow_add-a : goal.overflow_add-a
 overflow_add-a c =

@@ -1,7 +1,6 @@
-use Rattle.std.proofs.Common.{◌≡◌, ◌+◌, ◌-◌, ◌*◌, get_or, sym, refl, ◌∙◌, arith, rules}
-use Rattle.image.proofs.Addresses.{length_says}
+use Rattle.std.proofs.Common.{◌≡◌, ◌-◌}
 use Rattle.spans.specs.Spans.{index_on}
-use Rattle.spans.proofs.Spans.{lies, Here, here_below, here_up, index_end, index_past, index_here, index_up, index_tells}
+use Rattle.spans.proofs.Spans.{Here}
 use Rattle.spans.proofs.index.index_on.Given as goal
 
 abbrev pub invariant-loop-a : goal.invariant-loop-a

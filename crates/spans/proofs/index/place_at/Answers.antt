@@ -1,4 +1,4 @@
-use Rattle.std.proofs.Common.{arith, rules}
+use Rattle.std.proofs.Common.{arith}
 use Rattle.spans.proofs.Spans.{lies, place_long, place_follows, place_marked}
 use Rattle.spans.proofs.index.place_at.Goals as goal
 
@@ -13,15 +13,6 @@ overflow_add-result c =
 
 pub returns-then-pc-next : goal.returns-then-pc-next
 returns-then-pc-next c = place_follows _ _ _ _ _ _ _ c.if-guide.false c.if-pc-next.true
-
-pub index_marked-requires : goal.index_marked-requires
-index_marked-requires c = search rules
-
-pub overflow_cast-result : goal.overflow_cast-result
-overflow_cast-result c = search rules
-
-pub overflow_mul-result : goal.overflow_mul-result
-overflow_mul-result c = search rules
 
 pub overflow_add-result-2 : goal.overflow_add-result-2
 overflow_add-result-2 c = omega (arith, (lies c.requires.0).inside, c.well_formed.0.0)

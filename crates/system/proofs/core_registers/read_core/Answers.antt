@@ -1,4 +1,3 @@
-use borrow.Author.Rules.{rules}
 use Rattle.system.specs.CoreRegisters.{core_at}
 use native.Mathlib.Omega.{arith}
 use Rattle.system.proofs.core_registers.read_core.Goals as goal

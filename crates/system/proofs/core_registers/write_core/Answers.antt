@@ -1,4 +1,3 @@
-use borrow.Author.Rules.{rules}
 use Rattle.system.specs.CoreRegisters.{written_of}
 use native.Mathlib.Omega.{arith}
 use Rattle.system.proofs.core_registers.write_core.Goals as goal

@@ -1,6 +1,4 @@
-use borrow.Author.Rules.{rules}
 use mathlib.Core.Path.{sym, ◌∙◌}
-use borrow.Author.Tests.{not-true, not-false}
 use Rattle.fields.proofs.RangeSets.{prs_reset}
 use Rattle.acts.specs.Acts.{done_of}
 use Rattle.acts.proofs.Steadiness.{steady_next, steady_flags, done_ended}

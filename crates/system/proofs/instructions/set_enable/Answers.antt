@@ -1,4 +1,3 @@
-use borrow.Author.Rules.{rules}
 use Rattle.acts.specs.Acts.{done_of}
 use Rattle.system.specs.Instructions.{enable_of}
 use Rattle.system.proofs.instructions.set_enable.Goals as goal

@@ -1,4 +1,3 @@
-use borrow.Author.Rules.{rules}
 use Rattle.walk.proofs.Single.{single_step}
 use Rattle.walk.proofs.alone.step_alone.Goals as goal
 

@@ -1,4 +1,3 @@
-use borrow.Author.Rules.{rules}
 use mathlib.Core.Path.{sym, ◌∙◌}
 use Rattle.walk.proofs.Promises.{begun_long, begun_refused, begun_accepted}
 use Rattle.walk.proofs.blocks.begin.Goals as goal

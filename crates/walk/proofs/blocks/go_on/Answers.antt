@@ -1,8 +1,6 @@
-use borrow.Author.Rules.{rules}
-use Prim.Native.Nat.{◌-◌}
 use mathlib.Core.Path.{sym, ◌∙◌}
 use native.Mathlib.Omega.{arith}
-use Rattle.walk.proofs.Walks.{Turn, turn_start, filled, on, trapped, stopped, refused, ended}
+use Rattle.walk.proofs.Walks.{turn_start, filled, on, trapped, stopped, refused, ended}
 use Rattle.walk.proofs.Promises.{goes, goes_last, window_long}
 use Rattle.walk.proofs.blocks.go_on.Goals as goal
 

@@ -1,7 +1,4 @@
-use Prim.Native.Nat.{◌-◌}
-use lib.ListN.{length}
-use Rattle.walk.proofs.Texts.{Copied, copied_none, copied_more, copied_all}
-use native.Mathlib.Omega.{arith}
+use Rattle.walk.proofs.Texts.{copied_none, copied_more, copied_all}
 use Rattle.walk.proofs.lines.put.Goals as goal
 
 pub loop-i-preserved : goal.loop-i-preserved

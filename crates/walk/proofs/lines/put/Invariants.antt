@@ -1,7 +1,6 @@
 use Prim.Native.Nat.{◌-◌}
 use lib.ListN.{length}
-use Rattle.walk.proofs.Texts.{Copied, copied_none, copied_more, copied_all}
-use native.Mathlib.Omega.{arith}
+use Rattle.walk.proofs.Texts.{Copied}
 use Rattle.walk.proofs.lines.put.Given as goal
 
 abbrev pub invariant-loop-i : goal.invariant-loop-i

@@ -1,4 +1,3 @@
-use borrow.Author.Rules.{rules}
 use Rattle.walk.specs.Text.{decimal_of}
 use Rattle.walk.proofs.Texts.{then}
 use native.Mathlib.Omega.{arith}

@@ -1,4 +1,3 @@
-use borrow.Author.Rules.{rules}
 use borrow.Author.Tests.{lt-leb, le-leb}
 use Rattle.walk.proofs.Texts.{nothing}
 use Rattle.walk.specs.Text.{digit_of}

@@ -1,4 +1,3 @@
-use borrow.Author.Rules.{rules}
 use Rattle.walk.specs.Text.{end_of}
 use Rattle.walk.proofs.Texts.{then}
 use Rattle.walk.proofs.lines.put_end.Goals as goal

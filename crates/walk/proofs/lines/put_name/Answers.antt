@@ -1,4 +1,3 @@
-use borrow.Author.Rules.{rules}
 use Rattle.walk.proofs.Texts.{roomier}
 use native.Mathlib.Omega.{arith}
 use Rattle.walk.proofs.lines.put_name.Goals as goal

@@ -1,4 +1,3 @@
-use borrow.Author.Rules.{rules}
 use Rattle.walk.specs.Text.{refused_of}
 use Rattle.walk.proofs.Texts.{then}
 use Rattle.walk.proofs.lines.put_refused.Goals as goal

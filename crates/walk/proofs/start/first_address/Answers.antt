@@ -1,4 +1,3 @@
-use borrow.Author.Rules.{rules}
 use borrow.Author.Tests.{lt-leb, le-leb}
 use Rattle.walk.specs.Start.{first_address}
 use Rattle.walk.proofs.start.first_address.Goals as goal

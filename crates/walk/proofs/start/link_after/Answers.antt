@@ -1,4 +1,3 @@
-use borrow.Author.Rules.{rules}
 use borrow.Author.Tests.{lt-ltb, le-ltb}
 use Rattle.walk.specs.Start.{link_after}
 use Rattle.walk.proofs.start.link_after.Goals as goal

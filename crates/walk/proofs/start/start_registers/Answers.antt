@@ -1,4 +1,3 @@
-use borrow.Author.Rules.{rules}
 use Rattle.walk.specs.Start.{start_registers}
 use Rattle.walk.proofs.start.start_registers.Goals as goal
 

@@ -1,4 +1,4 @@
-use Rattle.std.proofs.Common.{refl, to_z-of_z, w64, rules}
+use Rattle.std.proofs.Common.{refl, to_z-of_z, w64}
 use Rattle.words.proofs.Exact.{returned}
 use Rattle.words.proofs.Results.{saturated_is}
 use Rattle.words.proofs.result.saturated.Goals as goal

@@ -1,4 +1,4 @@
-use Rattle.std.proofs.Common.{to_z-of_z, rules}
+use Rattle.std.proofs.Common.{to_z-of_z}
 use Rattle.words.proofs.Results.{carried_is}
 use Rattle.words.proofs.result.with_carry.Goals as goal
 

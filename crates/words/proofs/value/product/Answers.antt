@@ -1,4 +1,4 @@
-use Rattle.std.proofs.Common.{w64, rules}
+use Rattle.std.proofs.Common.{w64}
 use Rattle.words.proofs.Exact.{times, need, held}
 use Rattle.words.proofs.Values.{word}
 use Rattle.words.proofs.value.product.Goals as goal

@@ -1,4 +1,4 @@
-use Rattle.std.proofs.Common.{pos, sym, ◌∙◌, w32, rules}
+use Rattle.std.proofs.Common.{pos, sym, ◌∙◌, w32}
 use Rattle.words.proofs.Exact.{cast, lit, minus, need, held}
 use Rattle.words.proofs.Counts.{six_bits, count_low, count_high}
 use Rattle.words.proofs.value.shift_count.Goals as goal

@@ -1,4 +1,4 @@
-use Rattle.std.proofs.Common.{ℕ, ◌+◌, ◌^◌, ◌<◌, pos, ◌-ℤ◌, ◌∙◌, w64, to_z, rules}
+use Rattle.std.proofs.Common.{ℕ, ◌+◌, ◌^◌, ◌<◌, pos, ◌-ℤ◌, ◌∙◌, w64, to_z}
 use Rattle.words.proofs.Exact.{Exact, cast, lit, minus, need, held}
 use Rattle.words.proofs.Values.{turned}
 use Rattle.words.proofs.value.signed_value.Goals as goal

@@ -1,4 +1,4 @@
-use Rattle.std.proofs.Common.{w64, rules}
+use Rattle.std.proofs.Common.{w64}
 use Rattle.words.proofs.Exact.{plus, need, held}
 use Rattle.words.proofs.Values.{word}
 use Rattle.words.proofs.value.sum.Goals as goal
