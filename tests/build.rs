@@ -1,4 +1,4 @@
-// Links the static libraries that `rt staticlib NAME` writes.
+// Links the static libraries that tests/libraries builds.
 fn main() {
     let root = std::env::var("CARGO_MANIFEST_DIR").unwrap();
     let libraries = format!("{root}/../target/staticlib");

@@ -10,7 +10,10 @@ fn sources(folder: &Path, text: &mut String) {
     for entry in fs::read_dir(folder).unwrap() {
         let path = entry.unwrap().path();
         if path.is_dir() {
-            sources(&path, text);
+            // what rt makes there is no source
+            if !path.ends_with("out") {
+                sources(&path, text);
+            }
         } else if path.extension().is_some_and(|end| end == "rt" || end == "antt") {
             text.push_str(&fs::read_to_string(&path).unwrap());
         }
