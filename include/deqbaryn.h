@@ -4,7 +4,7 @@
  * docs/REFERENCE.md says what every number here means: the bits of the registers, the
  * image byte by byte, what each operation does, and each answer. This file names them.
  *
- * Link target/staticlib/libdeqbaryn.a, which `rt staticlib deqbaryn` writes (x86-64),
+ * Link crates/deqbaryn/out/libdeqbaryn.a, which `rt lib` there writes (x86-64),
  * to C99 or later, or to C++. It needs memset and nothing else from outside.
  *
  * Before its first call a host asks whether the library is of this header's version:

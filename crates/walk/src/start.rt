@@ -15,7 +15,7 @@ pub const BASE: Address = Address(0xD000_0000);
 // Room for the longest image and one byte more. Of any input, as much of it as fits here prints what the whole prints.
 pub fn input_buffer() -> [u8; 65537]
     ensures blank { result ≡ replicate (longest + 1) 0 }
-    ensures by_index { (given : List ℕ) → walk_of (take (length result) given) ≡ walk_of given }
+    ensures same_walk { (given : List ℕ) → walk_of (take (length result) given) ≡ walk_of given }
 {
     [0; 65537]
 }

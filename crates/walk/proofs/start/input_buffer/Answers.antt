@@ -6,4 +6,4 @@ use Rattle.walk.proofs.Wholes.{cut}
 use Rattle.walk.proofs.start.input_buffer.Goals as goal
 
 pub returns : goal.returns
-returns c = record { blank = refl; by_index = λ given. ap (λ (n : ℕ). walk_of (take n given)) (length-replicate {A = ℕ} (longest + 1) 0) ∙ cut given }
+returns c = record { blank = refl; same_walk = λ given. ap (λ (n : ℕ). walk_of (take n given)) (length-replicate {A = ℕ} (longest + 1) 0) ∙ cut given }
