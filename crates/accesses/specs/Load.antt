@@ -1,5 +1,5 @@
 -- Loads (002, 8.7 and chapter 9).
-use Rattle.std.specs.Prelude.{ℕ, ◌+◌, Bool, true, false, cond, ◌&&◌, List, length, get_or, ltb}
+use Rattle.std.specs.Prelude.{ℕ, ◌+◌, Bool, true, false, cond, ◌&&◌, List, length, get_or, ltb, Err, Ok, Result}
 use Rattle.memory.specs.Memory.{Memory}
 use Rattle.memory.specs.declared.address.Address.{Address}
 use Rattle.memory.specs.Word.{half_at, word_at}
@@ -13,8 +13,7 @@ use Rattle.protection.specs.declared.range.Right.TheVariants.{Read}
 use Rattle.acts.specs.Acts as acts
 use Rattle.acts.specs.Acts.{Effect, Sets}
 use Rattle.accesses.specs.Reach.{data_address, reach_of}
-use Rattle.accesses.specs.declared.reach.Reach.{Reach}
-use Rattle.accesses.specs.declared.reach.Reach.TheVariants.{At, Traps}
+use Rattle.events.specs.declared.trap.Trap.{Trap}
 
 -- A[a] plus immediate
 abbrev pub address_in : Instruction → List ℕ → Address
@@ -66,9 +65,9 @@ read_of LdA bytes at = word_at bytes at
 abbrev pub put_of : Load → ℕ → ℕ → Registers → Registers
 put_of op c v r = cond (loads_address op) (with_a c v r) (with_d c v r)
 
-abbrev pub load_by : Load → Instruction → Registers → Memory → Reach → Effect
-load_by op i r m (Traps t) = acts.Traps t
-load_by op i r m (At at) = Sets (with_pc i.next (put_of op i.c (read_of op m.bytes at) r))
+abbrev pub load_by : Load → Instruction → Registers → Memory → Result ℕ Trap → Effect
+load_by op i r m (Err t) = acts.Traps t
+load_by op i r m (Ok at) = Sets (with_pc i.next (put_of op i.c (read_of op m.bytes at) r))
 
 -- register c = the value at A[a] plus immediate
 unfoldable pub load_of : Load → Instruction → Registers → List Range → Memory → Effect

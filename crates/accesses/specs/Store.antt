@@ -1,5 +1,5 @@
 -- Stores (002, 8.7 and chapter 9).
-use Rattle.std.specs.Prelude.{ℕ, false, List, length, get_or}
+use Rattle.std.specs.Prelude.{ℕ, false, List, length, get_or, Err, Ok, Result}
 use Rattle.memory.specs.Memory.{Memory}
 use Rattle.operations.specs.declared.Store.{Store}
 use Rattle.operations.specs.declared.Store.TheVariants.{StB, StH, StW, StA}
@@ -12,8 +12,7 @@ use Rattle.acts.specs.Acts as acts
 use Rattle.acts.specs.Acts.{Act, Ends, Write}
 use Rattle.accesses.specs.Reach.{reach_of}
 use Rattle.accesses.specs.Load.{address_in}
-use Rattle.accesses.specs.declared.reach.Reach.{Reach}
-use Rattle.accesses.specs.declared.reach.Reach.TheVariants.{At, Traps}
+use Rattle.events.specs.declared.trap.Trap.{Trap}
 
 abbrev pub size_of : Store → ℕ
 size_of StB = 1
@@ -35,9 +34,9 @@ value_of StH c d a = get_or d c 0
 value_of StW c d a = get_or d c 0
 value_of StA c d a = get_or a c 0
 
-abbrev pub store_by : Store → Instruction → Registers → Reach → Act
-store_by op i r (Traps t) = Ends (acts.Traps t)
-store_by op i r (At at) = Write op at (value_of op i.c r.d r.a) (with_pc i.next r)
+abbrev pub store_by : Store → Instruction → Registers → Result ℕ Trap → Act
+store_by op i r (Err t) = Ends (acts.Traps t)
+store_by op i r (Ok at) = Write op at (value_of op i.c r.d r.a) (with_pc i.next r)
 
 -- register c goes to A[a] plus immediate; no register is written
 unfoldable pub store_of : Store → Instruction → Registers → List Range → Memory → Act

@@ -91,8 +91,8 @@ pub fn execute_load(
                 1,
                 address,
             ) {
-                Reach::Traps(t) => How::Trap(t),
-                Reach::At(_) => {
+                Err(t) => How::Trap(t),
+                Ok(_) => {
                     let at = spot_at(base, window, base2, window2, 1, address);
                     put_data(
                         d,
@@ -119,8 +119,8 @@ pub fn execute_load(
                 1,
                 address,
             ) {
-                Reach::Traps(t) => How::Trap(t),
-                Reach::At(_) => {
+                Err(t) => How::Trap(t),
+                Ok(_) => {
                     let at = spot_at(base, window, base2, window2, 1, address);
                     put_data(d, a, core, c, load_byte(window, window2, at), i.next)
                 }
@@ -140,8 +140,8 @@ pub fn execute_load(
                 2,
                 address,
             ) {
-                Reach::Traps(t) => How::Trap(t),
-                Reach::At(_) => {
+                Err(t) => How::Trap(t),
+                Ok(_) => {
                     let at = spot_at(base, window, base2, window2, 2, address);
                     put_data(
                         d,
@@ -168,8 +168,8 @@ pub fn execute_load(
                 2,
                 address,
             ) {
-                Reach::Traps(t) => How::Trap(t),
-                Reach::At(_) => {
+                Err(t) => How::Trap(t),
+                Ok(_) => {
                     let at = spot_at(base, window, base2, window2, 2, address);
                     put_data(d, a, core, c, load_half(window, window2, at), i.next)
                 }
@@ -189,8 +189,8 @@ pub fn execute_load(
                 2,
                 address,
             ) {
-                Reach::Traps(t) => How::Trap(t),
-                Reach::At(_) => {
+                Err(t) => How::Trap(t),
+                Ok(_) => {
                     let at = spot_at(base, window, base2, window2, 4, address);
                     put_data(d, a, core, c, load_word(window, window2, at), i.next)
                 }
@@ -211,8 +211,8 @@ pub fn execute_load(
                 4,
                 address,
             ) {
-                Reach::Traps(t) => How::Trap(t),
-                Reach::At(_) => {
+                Err(t) => How::Trap(t),
+                Ok(_) => {
                     let at = spot_at(base, window, base2, window2, 4, address);
                     a[c] = load_word(window, window2, at);
                     core[PC] = i.next;

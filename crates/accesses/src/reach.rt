@@ -35,19 +35,19 @@ fn reach_aligned(
     size: u8,
     alignment: u32,
     address: Address,
-) -> Reach
+) -> Result<usize, Trap>
     requires { 0 < alignment }
     ensures { result ≡ aligned_reach (windows base (length window.now) base2) (length (window.now ++ window2.now)) guarded size alignment address }
 {
     if guarded {
-        return Reach::Traps(GRWP);
+        return Err(GRWP);
     }
     if address.0 % alignment != 0 {
-        return Reach::Traps(ALN);
+        return Err(ALN);
     }
     match place_at(base, window, base2, window2, size, address) {
-        Place::Outside => Reach::Traps(DATA),
-        Place::At(at) => Reach::At(at),
+        None => Err(DATA),
+        Some(at) => Ok(at),
     }
 }
 
@@ -64,13 +64,13 @@ pub fn reach_data(
     size: u8,
     alignment: u32,
     address: Address,
-) -> Reach
+) -> Result<usize, Trap>
     requires { 0 < alignment }
     ensures { result ≡ reach_of (windows base (length window.now) base2) (length (window.now ++ window2.now)) core.now (ranges_in ranges.now) right guarded size alignment address }
 {
     match check_access(core, ranges, right, address) {
-        Check::Fails(t) => Reach::Traps(t),
-        Check::Passes => reach_aligned(
+        Err(t) => Err(t),
+        Ok(()) => reach_aligned(
             base, window, base2, window2, guarded, size, alignment, address,
         ),
     }

@@ -52,8 +52,8 @@ pub fn execute_store(
                 1,
                 address,
             ) {
-                Reach::Traps(t) => How::Trap(t),
-                Reach::At(_) => {
+                Err(t) => How::Trap(t),
+                Ok(_) => {
                     let at = spot_at(base, window, base2, window2, 1, address);
                     store_byte(window, window2, at, d[c]);
                     core[PC] = i.next;
@@ -75,8 +75,8 @@ pub fn execute_store(
                 2,
                 address,
             ) {
-                Reach::Traps(t) => How::Trap(t),
-                Reach::At(_) => {
+                Err(t) => How::Trap(t),
+                Ok(_) => {
                     let at = spot_at(base, window, base2, window2, 2, address);
                     store_half(window, window2, at, d[c]);
                     core[PC] = i.next;
@@ -98,8 +98,8 @@ pub fn execute_store(
                 2,
                 address,
             ) {
-                Reach::Traps(t) => How::Trap(t),
-                Reach::At(_) => {
+                Err(t) => How::Trap(t),
+                Ok(_) => {
                     let at = spot_at(base, window, base2, window2, 4, address);
                     store_word(window, window2, at, d[c]);
                     core[PC] = i.next;
@@ -121,8 +121,8 @@ pub fn execute_store(
                 4,
                 address,
             ) {
-                Reach::Traps(t) => How::Trap(t),
-                Reach::At(_) => {
+                Err(t) => How::Trap(t),
+                Ok(_) => {
                     let at = spot_at(base, window, base2, window2, 4, address);
                     store_word(window, window2, at, a[c]);
                     core[PC] = i.next;

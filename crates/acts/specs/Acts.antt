@@ -1,5 +1,5 @@
 -- What an instruction does is one of four acts. It is decided from the registers, the ranges, the memory and the record; then it is performed.
-use Rattle.std.specs.Prelude.{ℕ, Bool, cond, ◌&&◌, List, get_or, eqb}
+use Rattle.std.specs.Prelude.{ℕ, Bool, cond, ◌&&◌, List, get_or, eqb, Err, Ok, Result, ⊤}
 use Rattle.fields.specs.Psw.{psw_prs}
 use Rattle.memory.specs.Memory.{Memory, memory}
 use Rattle.memory.specs.Word.{put_byte, put_half, put_word}
@@ -14,13 +14,13 @@ use Rattle.contexts.specs.Context.{context_of}
 use Rattle.contexts.specs.Save.{save_of}
 use Rattle.contexts.specs.Restore.{return_of}
 use Rattle.contexts.specs.declared.context.Half.{Half}
-use Rattle.contexts.specs.declared.save.Saved.{Saved}
-use Rattle.contexts.specs.declared.save.Saved.TheVariants as saved
-use Rattle.contexts.specs.declared.restore.Returned.{Returned}
-use Rattle.contexts.specs.declared.restore.Returned.TheVariants as returned
 use Rattle.acts.specs.declared.Control.{Control}
 use Rattle.acts.specs.declared.How.{How}
 use Rattle.acts.specs.declared.How.TheVariants as how
+use Rattle.contexts.specs.declared.save.Saved.{Saved}
+use Rattle.events.specs.declared.event.Stop.{Stop}
+use Rattle.contexts.specs.declared.save.Saved.TheVariants.{Depleted, Done}
+use Rattle.events.specs.declared.event.Stop.TheVariants.{Outside}
 
 -- the effect of an instruction that leaves memory alone: it sets registers, or it takes a trap and leaves them too
 pub data Effect : Type 0 where
@@ -91,14 +91,14 @@ keeping e m = did e.how e.registers m
 abbrev pub doing : Registers → Registers → Memory → Did
 doing r q m = did (done_of r q) q m
 
-abbrev pub save_did : (Registers → Registers) → Registers → Saved → List ℕ → Memory → Did
-save_did then r (saved.Stops s) core m = did (how.Stopped s) (registers r.d r.a core) m
-save_did then r saved.Done core m = doing r (then (registers r.d r.a core)) m
-save_did then r saved.Depleted core m = did how.Depleted (then (registers r.d r.a core)) m
+abbrev pub save_did : (Registers → Registers) → Registers → Result Saved Stop → List ℕ → Memory → Did
+save_did then r (Err s) core m = did (how.Stopped s) (registers r.d r.a core) m
+save_did then r (Ok Done) core m = doing r (then (registers r.d r.a core)) m
+save_did then r (Ok Depleted) core m = did how.Depleted (then (registers r.d r.a core)) m
 
-abbrev pub return_did : (Registers → Registers) → Registers → Returned → Registers → Memory → Did
-return_did then r returned.Outside q m = did (how.Stopped stop.Outside) q m
-return_did then r returned.Done q m = doing r (then q) m
+abbrev pub return_did : (Registers → Registers) → Registers → Result ⊤ Stop → Registers → Memory → Did
+return_did then r (Err Outside) q m = did (how.Stopped stop.Outside) q m
+return_did then r (Ok tt) q m = doing r (then q) m
 
 -- an act performed, up to the entry of a trap that follows it. This alone changes memory. The heads are changed by a save and a return, and by an MTCR to FCX or PCXI: an act that ends with them set
 abbrev pub perform_of : Act → Registers → Memory → Did

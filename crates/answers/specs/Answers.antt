@@ -1,16 +1,12 @@
 -- The answers as numbers.
-use Rattle.std.specs.Prelude.{ℕ, ◌+◌, ◌*◌, ◌%◌, ◌^◌}
+use Rattle.std.specs.Prelude.{ℕ, ◌+◌, ◌*◌, ◌%◌, ◌^◌, Err, None, Ok, Option, Result, Some, ⊤}
 use Rattle.events.specs.Events.{stop_number}
 use Rattle.events.specs.declared.event.Event.{Event}
 use Rattle.events.specs.declared.event.Event.TheVariants as event
 use Rattle.inputs.specs.Verdict.{number_of, fault_of}
 use Rattle.inputs.specs.declared.verdict.Refusal.{Refusal}
-use Rattle.inputs.specs.declared.verdict.Verdict.{Verdict}
-use Rattle.inputs.specs.declared.verdict.Verdict.TheVariants as verdict
 use Rattle.machine.specs.declared.answer.Outcome.{Outcome}
 use Rattle.machine.specs.declared.answer.Outcome.TheVariants.{Made, Stopped, Refused}
-use Rattle.protection.specs.declared.range.Permit.{Permit}
-use Rattle.protection.specs.declared.range.Permit.TheVariants.{Unnamed, By}
 use Rattle.permits.specs.declared.Permits.{Permits}
 
 -- bits 7:0 the kind, 15:8 the number, 23:16 the TIN, 31:24 the permitting ranges, 63:32 the high word
@@ -18,9 +14,9 @@ unfoldable pub packed_of : ℕ → ℕ → ℕ → ℕ → ℕ → ℕ
 packed_of kind number tin permits high = kind + number * 2 ^ 8 + tin * 2 ^ 16 + permits * 2 ^ 24 + high * 2 ^ 32
 
 -- 0 where no range is named, else 4 and the range's number among the four of set PRS
-abbrev pub permit_number : Permit → ℕ
-permit_number Unnamed = 0
-permit_number (By k) = 4 + k % 4
+abbrev pub permit_number : Option ℕ → ℕ
+permit_number None = 0
+permit_number (Some k) = 4 + k % 4
 
 -- bits 26:24 for the fetch, 29:27 for the data access
 abbrev pub permits_number : Permits → ℕ
@@ -47,6 +43,6 @@ abbrev pub wrong_length : ℕ
 wrong_length = packed_of 5 0 0 0 0
 
 -- 6 a start that is accepted
-abbrev pub verdict_answer : Verdict → ℕ
-verdict_answer verdict.Accepted = packed_of 6 0 0 0 0
-verdict_answer (verdict.Refused x) = refusal_answer x 0
+abbrev pub verdict_answer : Result ⊤ Refusal → ℕ
+verdict_answer (Ok tt) = packed_of 6 0 0 0 0
+verdict_answer (Err x) = refusal_answer x 0

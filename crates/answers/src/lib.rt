@@ -22,12 +22,12 @@ fn packed(kind: u8, number: u8, tin: u8, permits: u8, high: u32) -> u64
 }
 
 // A permitting range by its number among the four of its set, with bit 2; 0 for none.
-fn permit(p: Permit) -> u8
+fn permit(p: Option<usize>) -> u8
     ensures { (result ≡ permit_number p) × (result < 8) }
 {
     match p {
-        Permit::Unnamed => 0,
-        Permit::By(k) => (4 + k % 4) as u8,
+        None => 0,
+        Some(k) => (4 + k % 4) as u8,
     }
 }
 
@@ -75,11 +75,11 @@ pub fn wrong_length() -> u64
 }
 
 // Of a start.
-pub fn verdict_answer(v: Verdict) -> u64
+pub fn verdict_answer(v: Result<(), Refusal>) -> u64
     ensures { result ≡ verdict_answer v }
 {
     match v {
-        Verdict::Accepted => packed(6, 0, 0, 0, 0),
-        Verdict::Refused(x) => refusal_answer(x, 0),
+        Ok(()) => packed(6, 0, 0, 0, 0),
+        Err(x) => refusal_answer(x, 0),
     }
 }

@@ -17,10 +17,10 @@ use Rattle.areas.specs.Link.{area_address}
 use Rattle.areas.specs.Place.{spot_of, place_of, offset}
 use Rattle.areas.specs.Area.{area_at, area_by, area_of}
 use Rattle.fields.specs.declared.link.Link.{Link}
-use Rattle.areas.specs.declared.link.Place.TheVariants.{At}
 use Rattle.areas.specs.declared.link.Spot.{Spot}
 use Rattle.areas.specs.declared.link.Spot.TheVariants.{First, Second, Neither}
 use Rattle.areas.proofs.Places.{place_of_spot, lies_first, placed_at_lem}
+use Rattle.std.specs.Prelude.{Some}
 
 -- the part as the code takes it
 pub part_64 : (at : ℕ) (s : List ℕ) → take (at + 64 - at) (drop at s) ≡ area_at s at
@@ -49,7 +49,7 @@ module _ (s t : List ℕ) (b c : Address) (l : Link) where
   neither_is e = ap (area_by (s ++ t)) (place_of_spot s t b c 64 (area_address l) Neither e)
 
 -- an area that has a place: the bytes there
-pub area_placed : (m : Memory) (l : Link) (at : ℕ) → place_of m l ≡ At at → area_of m l ≡ area_at m.bytes at
+pub area_placed : (m : Memory) (l : Link) (at : ℕ) → place_of m l ≡ Some at → area_of m l ≡ area_at m.bytes at
 unfolding area_of
 area_placed m l at p = ap (area_by m.bytes) p
 
@@ -57,7 +57,7 @@ area_placed m l at p = ap (area_by m.bytes) p
 pub area_length : (s : List ℕ) (at : ℕ) → at + 64 ≤ length s → length (area_at s at) ≡ 64
 area_length s at h = length-take-le 64 (drop at s) (simp length-drop (omega arith))
 
-pub area_64 : (m : Memory) (l : Link) (at : ℕ) → place_of m l ≡ At at → length (area_of m l) ≡ 64
+pub area_64 : (m : Memory) (l : Link) (at : ℕ) → place_of m l ≡ Some at → length (area_of m l) ≡ 64
 area_64 m l at p =
     ap length (area_placed m l at p) ∙ area_length m.bytes at (placed_at_lem m.windows (length m.bytes) (area_address l) at p).inside
 
@@ -77,7 +77,7 @@ pub area_first : (s : List ℕ) (at : ℕ) → word_at (area_at s at) 0 ≡ word
 area_first s at = area_word s at 0 (omega arith) ∙ ap (word_at s) (add-zero at)
 
 -- the area's first word is the word at its place
-pub first_word_placed : (m : Memory) (l : Link) (at : ℕ) → place_of m l ≡ At at → word_at (area_of m l) 0 ≡ word_at m.bytes at
+pub first_word_placed : (m : Memory) (l : Link) (at : ℕ) → place_of m l ≡ Some at → word_at (area_of m l) 0 ≡ word_at m.bytes at
 first_word_placed m l at p = ap (λ (x : List ℕ). word_at x 0) (area_placed m l at p) ∙ area_first m.bytes at
 
 -- ---- writing

@@ -17,12 +17,11 @@ use Rattle.areas.specs.Link.{area_address}
 use Rattle.areas.specs.Place.{placed_in, either_spot, spot_at, joined_place, placed_at, placed, spot_of, place_of, LiesIn, offset}
 use Rattle.fields.specs.declared.link.Link.{Link}
 use Rattle.memory.specs.declared.address.Address.{Address}
-use Rattle.areas.specs.declared.link.Place.{Place}
-use Rattle.areas.specs.declared.link.Place.TheVariants.{At, Outside}
 use Rattle.areas.specs.declared.link.Spot.{Spot}
 use Rattle.areas.specs.declared.link.Spot.TheVariants.{First, Second, Neither}
+use Rattle.std.specs.Prelude.{None, Option, Some}
 
-pub never_at : {n : ℕ} → Outside ≡ At n → ⊥
+pub never_at : {n : ℕ} → None ≡ Some n → ⊥
 never_at e = let z : ◌≡◌ {A = ℕ} 0 1 = cc in omega arith
 
 never_first : {n k : ℕ} → First n ≡ Second k → ⊥
@@ -34,7 +33,7 @@ first_some e = let z : ◌≡◌ {A = ℕ} 0 1 = cc in omega arith
 second_some : {n : ℕ} → Second n ≡ Neither → ⊥
 second_some e = let z : ◌≡◌ {A = ℕ} 0 1 = cc in omega arith
 
-picked : (t u : Bool) (n at : ℕ) → cond t Outside (cond u Outside (At n)) ≡ At at → (t ≡ false) × (u ≡ false) × (n ≡ at)
+picked : (t u : Bool) (n at : ℕ) → cond t None (cond u None (Some n)) ≡ Some at → (t ≡ false) × (u ≡ false) × (n ≡ at)
 picked true u n at e = absurd (never_at e)
 picked false true n at e = absurd (never_at e)
 picked false false n at e = (refl, refl, cc)
@@ -45,7 +44,7 @@ pub record FoundIn (base : Address) (len size : ℕ) (a : Address) (at : ℕ) : 
   pub is : at + base.0 ≡ a.0
   pub inside : at + size ≤ len
 
-pub found_in : (base : Address) (len size : ℕ) (a : Address) (at : ℕ) → placed_in base len size a ≡ At at → FoundIn base len size a at
+pub found_in : (base : Address) (len size : ℕ) (a : Address) (at : ℕ) → placed_in base len size a ≡ Some at → FoundIn base len size a at
 unfolding placed_in
 found_in base len size a at e =
     let r = picked (ltb a.0 base.0) (ltb len (a.0 - base.0 + size)) (a.0 - base.0) at e in
@@ -58,22 +57,22 @@ pub data Found (w : Windows) (len size : ℕ) (a : Address) (at : ℕ) : Type 0 
   in_first : FoundIn w.first (first_length w len) size a at → Found w len size a at
   in_second : (k : ℕ) → first_length w len + k ≡ at → FoundIn w.second (second_length w len) size a k → Found w len size a at
 
-pub found : (w : Windows) (len size : ℕ) (a : Address) (at : ℕ) → placed_at w len size a ≡ At at → Found w len size a at
+pub found : (w : Windows) (len size : ℕ) (a : Address) (at : ℕ) → placed_at w len size a ≡ Some at → Found w len size a at
 unfolding placed_at spot_at
 found w len size a at = by (placed_in w.first (first_length w len) size a) refl (placed_in w.second (second_length w len) size a) refl
   where
-    by : (p : Place) → placed_in w.first (first_length w len) size a ≡ p → (q : Place) → placed_in w.second (second_length w len) size a ≡ q
-        → joined_place (first_length w len) (either_spot p q) ≡ At at → Found w len size a at
-    by (At k) e q f g = let z : k ≡ at = cc in in_first (found_in w.first (first_length w len) size a at (rw (← z) e))
-    by Outside e (At k) f g = let z : first_length w len + k ≡ at = cc in in_second k z (found_in w.second (second_length w len) size a k f)
-    by Outside e Outside f g = absurd (never_at g)
+    by : (p : Option ℕ) → placed_in w.first (first_length w len) size a ≡ p → (q : Option ℕ) → placed_in w.second (second_length w len) size a ≡ q
+        → joined_place (first_length w len) (either_spot p q) ≡ Some at → Found w len size a at
+    by (Some k) e q f g = let z : k ≡ at = cc in in_first (found_in w.first (first_length w len) size a at (rw (← z) e))
+    by None e (Some k) f g = let z : first_length w len + k ≡ at = cc in in_second k z (found_in w.second (second_length w len) size a k f)
+    by None e None f g = absurd (never_at g)
 
 -- the address of byte k of both windows
 unfoldable pub address_at : Windows → ℕ → ℕ → ℕ
 address_at w len k = cond (ltb k (first_length w len)) (w.first.0 + k) (w.second.0 + (k - first_length w len))
 
 -- that of a byte of some that have a place
-pub address_at_lem : (w : Windows) (len size : ℕ) (a : Address) (at k : ℕ) → placed_at w len size a ≡ At at → at ≤ k → k < at + size → a.0 + (k - at) ≡ address_at w len k
+pub address_at_lem : (w : Windows) (len size : ℕ) (a : Address) (at k : ℕ) → placed_at w len size a ≡ Some at → at ≤ k → k < at + size → a.0 + (k - at) ≡ address_at w len k
 unfolding address_at
 address_at_lem w len size a at k e x y = by (found w len size a at e)
   where
@@ -83,16 +82,16 @@ address_at_lem w len size a at k e x y = by (found w len size a at e)
 
 -- the cases of the search, as the code has them
 module _ (s t : List ℕ) (base base2 : Address) (size : ℕ) (a : Address) where
-  pub spot_first : (at : ℕ) → placed_in base (length s) size a ≡ At at → First at ≡ spot_at (windows base (length s) base2) (length (s ++ t)) size a
+  pub spot_first : (at : ℕ) → placed_in base (length s) size a ≡ Some at → First at ≡ spot_at (windows base (length s) base2) (length (s ++ t)) size a
   unfolding spot_at
   spot_first at e = rw (first_length_lem s t base base2, e)
 
-  pub spot_second : (k : ℕ) → placed_in base (length s) size a ≡ Outside → placed_in base2 (length t) size a ≡ At k
+  pub spot_second : (k : ℕ) → placed_in base (length s) size a ≡ None → placed_in base2 (length t) size a ≡ Some k
       → Second k ≡ spot_at (windows base (length s) base2) (length (s ++ t)) size a
   unfolding spot_at
   spot_second k e f = rw (first_length_lem s t base base2, second_length_lem s t base base2, e, f)
 
-  pub spot_neither : placed_in base (length s) size a ≡ Outside → placed_in base2 (length t) size a ≡ Outside
+  pub spot_neither : placed_in base (length s) size a ≡ None → placed_in base2 (length t) size a ≡ None
       → Neither ≡ spot_at (windows base (length s) base2) (length (s ++ t)) size a
   unfolding spot_at
   spot_neither e f = rw (first_length_lem s t base base2, second_length_lem s t base base2, e, f)
@@ -113,10 +112,10 @@ module _ (s t : List ℕ) (base base2 : Address) (size : ℕ) (a : Address) wher
       n : ℕ
       n = length (s ++ t)
 
-      by : (p : Place) → placed_in base (first_length w n) size a ≡ p → (q : Place) → First at ≡ either_spot p q → at + size ≤ length s
-      by (At k) e q g = let z : at ≡ k = cc in let i = (found_in base (first_length w n) size a k e).inside in let l = first_length_lem s t base base2 in omega arith
-      by Outside e (At k) g = absurd (never_first g)
-      by Outside e Outside g = absurd (first_some g)
+      by : (p : Option ℕ) → placed_in base (first_length w n) size a ≡ p → (q : Option ℕ) → First at ≡ either_spot p q → at + size ≤ length s
+      by (Some k) e q g = let z : at ≡ k = cc in let i = (found_in base (first_length w n) size a k e).inside in let l = first_length_lem s t base base2 in omega arith
+      by None e (Some k) g = absurd (never_first g)
+      by None e None g = absurd (first_some g)
 
   pub lies_second : (at : ℕ) → Second at ≡ spot_at (windows base (length s) base2) (length (s ++ t)) size a → (at + size ≤ length t) × (at ≤ a.0)
   unfolding spot_at
@@ -128,29 +127,29 @@ module _ (s t : List ℕ) (base base2 : Address) (size : ℕ) (a : Address) wher
       n : ℕ
       n = length (s ++ t)
 
-      by : (p q : Place) → placed_in base2 (second_length w n) size a ≡ q → Second at ≡ either_spot p q → (at + size ≤ length t) × (at ≤ a.0)
-      by (At k) q f g = absurd (never_first (sym g))
-      by Outside (At k) f g =
+      by : (p q : Option ℕ) → placed_in base2 (second_length w n) size a ≡ q → Second at ≡ either_spot p q → (at + size ≤ length t) × (at ≤ a.0)
+      by (Some k) q f g = absurd (never_first (sym g))
+      by None (Some k) f g =
           let z : at ≡ k = cc in
           let r = found_in base2 (second_length w n) size a k f in
           let i = r.inside in
           let j = r.is in
           let l = second_length_lem s t base base2 in
           (omega arith, omega arith)
-      by Outside Outside f g = absurd (second_some g)
+      by None None f g = absurd (second_some g)
 
   -- what has a place has a spot, and that is the place
   pub spot_placed : (x : Spot) → x ≡ spot_at (windows base (length s) base2) (length (s ++ t)) size a → (at : ℕ)
-      → placed_at (windows base (length s) base2) (length (s ++ t)) size a ≡ At at → LiesIn (length s) (length t) size x × (offset (length s) x ≡ at)
+      → placed_at (windows base (length s) base2) (length (s ++ t)) size a ≡ Some at → LiesIn (length s) (length t) size x × (offset (length s) x ≡ at)
   spot_placed x e at p = by x e (place_of_spot x e ∙ p)
     where
-      by : (x : Spot) → x ≡ spot_at (windows base (length s) base2) (length (s ++ t)) size a → joined_place (length s) x ≡ At at
+      by : (x : Spot) → x ≡ spot_at (windows base (length s) base2) (length (s ++ t)) size a → joined_place (length s) x ≡ Some at
           → LiesIn (length s) (length t) size x × (offset (length s) x ≡ at)
       by (First k) e g = (lies_first k e, cc)
       by (Second k) e g = ((lies_second k e).0, cc)
       by Neither e g = absurd (never_at g)
 
-pub spot_at_place : (s t : List ℕ) (b c : Address) (l : Link) (x : Spot) → x ≡ spot_of (lent b s c t) l → (at : ℕ) → place_of (lent b s c t) l ≡ At at
+pub spot_at_place : (s t : List ℕ) (b c : Address) (l : Link) (x : Spot) → x ≡ spot_of (lent b s c t) l → (at : ℕ) → place_of (lent b s c t) l ≡ Some at
     → LiesIn (length s) (length t) 64 x × (offset (length s) x ≡ at)
 spot_at_place s t b c l x e at p = spot_placed s t b c 64 (area_address l) x e at p
 
@@ -160,14 +159,14 @@ pub record Within (split len at size : ℕ) : Type 0 where
   pub one : at < split → at + size ≤ split
 
 -- a place that is found does
-pub place_found : (w : Windows) (len size : ℕ) (a : Address) (at : ℕ) → placed_at w len size a ≡ At at → Within w.split len at size
+pub place_found : (w : Windows) (len size : ℕ) (a : Address) (at : ℕ) → placed_at w len size a ≡ Some at → Within w.split len at size
 place_found w len size a at e = by (found w len size a at e)
   where
     by : Found w len size a at → Within w.split len at size
     by (in_first f) = let i = f.inside in record { inside = omega arith; one = λ h. omega arith }
     by (in_second k s f) = let i = f.inside in record { inside = omega arith; one = λ h. omega arith }
 
-pub placed_at_lem : (w : Windows) (len : ℕ) (a : Address) (at : ℕ) → placed w len a ≡ At at → Within w.split len at 64
+pub placed_at_lem : (w : Windows) (len : ℕ) (a : Address) (at : ℕ) → placed w len a ≡ Some at → Within w.split len at 64
 placed_at_lem w len a at e = place_found w len 64 a at e
 
 -- two links' areas are the same or apart
@@ -197,7 +196,7 @@ apart_in base len l k at bt hl hk ne u v = either (dec_le (at + 64) bt) (dec_le 
 
 -- in different windows they are apart as the windows are
 pub apart : (w : Windows) (len : ℕ) (l k : Link) (at bt : ℕ) → l.0 < 2 ^ 20 → k.0 < 2 ^ 20 → (l.0 ≡ k.0 → ⊥)
-    → placed w len (area_address l) ≡ At at → placed w len (area_address k) ≡ At bt → (at + 64 ≤ bt) ⊎ (bt + 64 ≤ at)
+    → placed w len (area_address l) ≡ Some at → placed w len (area_address k) ≡ Some bt → (at + 64 ≤ bt) ⊎ (bt + 64 ≤ at)
 apart w len l k at bt hl hk ne p q = by (found w len 64 (area_address l) at p) (found w len 64 (area_address k) bt q)
   where
     by : Found w len 64 (area_address l) at → Found w len 64 (area_address k) bt → (at + 64 ≤ bt) ⊎ (bt + 64 ≤ at)

@@ -31,19 +31,19 @@ pub enum Place {
 }
 
 // The place of some bytes from an address on, in a window of len bytes at base.
-fn place_in(base: Address, len: usize, size: u8, a: Address) -> Place
+fn place_in(base: Address, len: usize, size: u8, a: Address) -> Option<usize>
     ensures { result ≡ placed_in base len size a }
 {
     let from = base.0;
     let to = a.0;
     if to < from {
-        return Place::Outside;
+        return None;
     }
     let at = (to - from) as usize;
     if len < at + size as usize {
-        return Place::Outside;
+        return None;
     }
-    Place::At(at)
+    Some(at)
 }
 
 // Whichever window has some bytes from an address on.
@@ -58,10 +58,10 @@ pub fn spot_at(
     ensures { result ≡ spot_at (windows base (length window.now) base2) (length (window.now ++ window2.now)) size a }
 {
     match place_in(base, window.len(), size, a) {
-        Place::At(at) => Spot::First(at),
-        Place::Outside => match place_in(base2, window2.len(), size, a) {
-            Place::At(at) => Spot::Second(at),
-            Place::Outside => Spot::Neither,
+        Some(at) => Spot::First(at),
+        None => match place_in(base2, window2.len(), size, a) {
+            Some(at) => Spot::Second(at),
+            None => Spot::Neither,
         },
     }
 }
@@ -74,13 +74,13 @@ pub fn place_at(
     window2: &[u8],
     size: u8,
     a: Address,
-) -> Place
+) -> Option<usize>
     ensures { result ≡ placed_at (windows base (length window.now) base2) (length (window.now ++ window2.now)) size a }
 {
     match spot_at(base, window, base2, window2, size, a) {
-        Spot::First(at) => Place::At(at),
-        Spot::Second(at) => Place::At(window.len() + at),
-        Spot::Neither => Place::Outside,
+        Spot::First(at) => Some(at),
+        Spot::Second(at) => Some(window.len() + at),
+        Spot::Neither => None,
     }
 }
 
@@ -92,7 +92,7 @@ pub fn spot_of(base: Address, window: &[u8], base2: Address, window2: &[u8], l: 
 }
 
 // The place of a link's area.
-pub fn locate(base: Address, window: &[u8], base2: Address, window2: &[u8], l: Link) -> Place
+pub fn locate(base: Address, window: &[u8], base2: Address, window2: &[u8], l: Link) -> Option<usize>
     ensures { result ≡ place_of (lent base window.now base2 window2.now) l }
 {
     place_at(base, window, base2, window2, 64, area_address(l))

@@ -1,9 +1,8 @@
 -- Inputs that the rules accept: document 01's image of CALL and RET, with the pool walk's window and state.
-use Rattle.std.specs.Prelude.{ℕ, zero, suc, ◌+◌, ◌/◌, ◌%◌, ◌≡◌, List, [], ◌∷◌, ◌++◌, replicate}
+use Rattle.std.specs.Prelude.{ℕ, zero, suc, ◌+◌, ◌/◌, ◌%◌, ◌≡◌, List, [], ◌∷◌, ◌++◌, replicate, Ok}
 use Rattle.memory.specs.Address.{as_address}
 use Rattle.memory.specs.Memory.{Memory, lent}
 use Rattle.inputs.specs.Checks.{start_verdict}
-use Rattle.inputs.specs.declared.verdict.Verdict.TheVariants.{Accepted}
 
 -- one entry at 80000000 with two records, at offset 10: CALL to PC + 4, RET
 abbrev pub call_return : List ℕ
@@ -26,4 +25,4 @@ pool = lent (as_address 0xD000_0000) (linked_from 64 0xD_0001) (as_address 0) []
 
 -- PC is the first load address, FCX D0000, PCXI 0
 abbrev pub PoolAccepted : Type 0
-PoolAccepted = start_verdict pool call_return 0x8000_0000 0xD_0000 0 ≡ Accepted
+PoolAccepted = start_verdict pool call_return 0x8000_0000 0xD_0000 0 ≡ (Ok tt)

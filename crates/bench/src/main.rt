@@ -54,11 +54,11 @@ fn range_values(rt: &impl Print) -> io::Result<()> {
     range_row(rt, 0xD000_0200, outside)
 }
 
-fn range_row(rt: &impl Print, address: u32, found: Permit) -> io::Result<()> {
+fn range_row(rt: &impl Print, address: u32, found: Option<usize>) -> io::Result<()> {
     word(rt, address)?;
     match found {
-        Permit::By(_) => text(rt, b": in\n"),
-        Permit::Unnamed => text(rt, b": out\n"),
+        Some(_) => text(rt, b": in\n"),
+        None => text(rt, b": out\n"),
     }
 }
 

@@ -1,5 +1,5 @@
 -- RET, RFE and RSLCX (002, 4.3, 8.8.1, 8.9.5 and chapter 9).
-use Rattle.std.specs.Prelude.{ℕ, Bool, not, cond, eqb}
+use Rattle.std.specs.Prelude.{ℕ, Bool, not, cond, eqb, Err, Ok, Result, ⊤}
 use Rattle.fields.specs.Pcxi.{pcxi_pcpn, pcxi_pie, pcxi_ul}
 use Rattle.fields.specs.Depth.{underflows_down, nested}
 use Rattle.fields.specs.Icr.{icr_of}
@@ -11,8 +11,7 @@ use Rattle.contexts.specs.declared.context.Half.{Half}
 use Rattle.contexts.specs.declared.context.Half.TheVariants.{Upper, Lower}
 use Rattle.acts.specs.Acts as acts
 use Rattle.acts.specs.Acts.{Act, Ends, Return}
-use Rattle.calls.specs.declared.returns.Previous.{Previous}
-use Rattle.calls.specs.declared.returns.Previous.TheVariants.{There, Traps}
+use Rattle.events.specs.declared.trap.Trap.{Trap}
 
 -- UL is that of the half
 abbrev pub is_of : Half → ℕ → Bool
@@ -20,12 +19,12 @@ is_of Upper word = pcxi_ul word
 is_of Lower word = not (pcxi_ul word)
 
 -- 3/5 link 0 on a return, 3/6 wrong UL
-unfoldable pub previous_of : Half → ℕ → Previous
-previous_of half word = cond (eqb (link_of word).0 0) (Traps CSU) (cond (is_of half word) There (Traps CTYP))
+unfoldable pub previous_of : Half → ℕ → Result ⊤ Trap
+previous_of half word = cond (eqb (link_of word).0 0) (Err CSU) (cond (is_of half word) (Ok tt) (Err CTYP))
 
-abbrev pub if_there : Act → Previous → Act
-if_there act (Traps t) = Ends (acts.Traps t)
-if_there act There = act
+abbrev pub if_there : Act → Result ⊤ Trap → Act
+if_there act (Err t) = Ends (acts.Traps t)
+if_there act (Ok tt) = act
 
 -- RET: PC = A11, upper return, all of PSW. 3/3 where CDC would underflow. ICR stays
 unfoldable pub ret_of : Registers → Act

@@ -34,17 +34,17 @@ fn is_of(half: Half, word: u32) -> bool
     }
 }
 
-fn previous_context(word: u32, half: Half) -> Previous
+fn previous_context(word: u32, half: Half) -> Result<(), Trap>
     ensures { result ≡ previous_of half word }
 {
     let l = link_of(word);
     if l.0 == 0 {
-        return Previous::Traps(CSU);
+        return Err(CSU);
     }
     if is_of(half, word) {
-        return Previous::There;
+        return Ok(());
     }
-    Previous::Traps(CTYP)
+    Err(CTYP)
 }
 
 pub fn ret(
@@ -62,13 +62,13 @@ pub fn ret(
         return How::Trap(CDU);
     }
     match previous_context(core[PCXI], Half::Upper) {
-        Previous::Traps(t) => How::Trap(t),
-        Previous::There => {
+        Err(t) => How::Trap(t),
+        Ok(()) => {
             let to = new_pc(a[11]);
             let before = control_of(core);
             match restore(base, window, base2, window2, d, a, core, Half::Upper) {
-                Returned::Outside => How::Stopped(Stop::Outside),
-                Returned::Done => {
+                Err(Stop::Outside) => How::Stopped(Stop::Outside),
+                Ok(()) => {
                     core[PC] = to;
                     settled(before, core)
                 }
@@ -89,8 +89,8 @@ pub fn rfe(
     ensures { did result (registers d.new a.new core.new) (lent base window.new base2 window2.new) ≡ perform_of (rfe_of (registers d.old a.old core.old)) (registers d.old a.old core.old) (lent base window.old base2 window2.old) }
 {
     match previous_context(core[PCXI], Half::Upper) {
-        Previous::Traps(t) => How::Trap(t),
-        Previous::There => {
+        Err(t) => How::Trap(t),
+        Ok(()) => {
             if in_call(core[PSW]) {
                 return How::Trap(NEST);
             }
@@ -102,8 +102,8 @@ pub fn rfe(
             );
             let before = control_of(core);
             match restore(base, window, base2, window2, d, a, core, Half::Upper) {
-                Returned::Outside => How::Stopped(Stop::Outside),
-                Returned::Done => {
+                Err(Stop::Outside) => How::Stopped(Stop::Outside),
+                Ok(()) => {
                     core[ICR] = icr;
                     core[PC] = to;
                     settled(before, core)
@@ -126,10 +126,10 @@ pub fn rslcx(
     ensures { did result (registers d.new a.new core.new) (lent base window.new base2 window2.new) ≡ perform_of (rslcx_of next (registers d.old a.old core.old)) (registers d.old a.old core.old) (lent base window.old base2 window2.old) }
 {
     match previous_context(core[PCXI], Half::Lower) {
-        Previous::Traps(t) => How::Trap(t),
-        Previous::There => match restore(base, window, base2, window2, d, a, core, Half::Lower) {
-            Returned::Outside => How::Stopped(Stop::Outside),
-            Returned::Done => {
+        Err(t) => How::Trap(t),
+        Ok(()) => match restore(base, window, base2, window2, d, a, core, Half::Lower) {
+            Err(Stop::Outside) => How::Stopped(Stop::Outside),
+            Ok(()) => {
                 core[PC] = next;
                 How::Done
             }

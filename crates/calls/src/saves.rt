@@ -40,12 +40,12 @@ pub fn call(
         return How::Trap(CDO);
     }
     match save_upper(base, window, base2, window2, d, a, core) {
-        Saved::Stops(s) => How::Stopped(s),
-        Saved::Done => {
+        Err(s) => How::Stopped(s),
+        Ok(Saved::Done) => {
             set_called(d, a, core, to, next);
             How::Done
         }
-        Saved::Depleted => {
+        Ok(Saved::Depleted) => {
             set_called(d, a, core, to, next);
             How::Depleted
         }
@@ -104,12 +104,12 @@ pub fn save_lower_half(
     }
     let before = control_of(core);
     match save_lower(base, window, base2, window2, d, a, core, next) {
-        Saved::Stops(s) => How::Stopped(s),
-        Saved::Done => {
+        Err(s) => How::Stopped(s),
+        Ok(Saved::Done) => {
             set_after(d, a, core, bisr, imm, next);
             settled(before, core)
         }
-        Saved::Depleted => {
+        Ok(Saved::Depleted) => {
             // an FCD entry finds IE and CCPN as they are set here
             set_after(d, a, core, bisr, imm, next);
             How::Depleted

@@ -14,17 +14,16 @@ use Rattle.areas.specs.Area.{area_of}
 use Rattle.fields.specs.declared.link.Link.{Link}
 use Rattle.memory.specs.declared.address.Address.{Address}
 use Rattle.areas.specs.declared.link.Spot.{Spot}
-use Rattle.areas.specs.declared.link.Place.TheVariants as place
 use Rattle.areas.proofs.Places.{spot_at_place}
 use Rattle.areas.proofs.Parts.{first_word_placed}
 use Rattle.registers.specs.Core.{FCX}
 use Rattle.events.specs.declared.event.Stop.{Stop}
 use Rattle.contexts.specs.Save.{room_of, Taken, taken, heads_of, take_of, foreseen_of, stops_of, saving, taking, saved_by, save_at_of, save_of}
 use Rattle.contexts.specs.declared.context.Half.{Half}
-use Rattle.contexts.specs.declared.save.Room.TheVariants as room
-use Rattle.contexts.specs.declared.save.Saved.{Saved}
-use Rattle.contexts.specs.declared.save.Saved.TheVariants.{Done, Depleted, Stops}
 use Rattle.contexts.proofs.Rooms.{room_at_lem}
+use Rattle.std.specs.Prelude.{Err, Ok, Result, Some}
+use Rattle.contexts.specs.declared.save.Saved.{Saved}
+use Rattle.contexts.specs.declared.save.Saved.TheVariants.{Depleted, Done}
 
 module _ (core s t : List ℕ) (b c : Address) where
   abbrev m : Memory
@@ -34,13 +33,13 @@ module _ (core s t : List ℕ) (b c : Address) where
   l = link_of (get_or core FCX 0)
 
   -- no area
-  pub save_stops : (half : Half) (words : List ℕ) (x : Stop) → room_of m l ≡ room.Stops x → saving (Stops x) core m ≡ save_of half words core m
+  pub save_stops : (half : Half) (words : List ℕ) (x : Stop) → room_of m l ≡ Err x → saving (Err x) core m ≡ save_of half words core m
   unfolding save_of
   save_stops half words x e = rw e
 
   -- the area is found
-  module _ (at : ℕ) (e : room_of m l ≡ room.At at) where
-    place_found : place_of m l ≡ place.At at
+  module _ (at : ℕ) (e : room_of m l ≡ Ok at) where
+    place_found : place_of m l ≡ Some at
     place_found = (room_at_lem m.windows (length m.bytes) l at e).lies
 
     pub area_lies : Lies m l
@@ -57,7 +56,7 @@ module _ (core s t : List ℕ) (b c : Address) where
     unfolding take_of
     taken_is half words next n x f = rw (next_is next n, (spot_at_place s t b c l x f at place_found).1)
 
-    module _ (half : Half) (words : List ℕ) (next : Link) (n : next ≡ link_of (word_at (area_of m l) 0)) (v : Saved) (f : v ≡ foreseen_of core m next) where
+    module _ (half : Half) (words : List ℕ) (next : Link) (n : next ≡ link_of (word_at (area_of m l) 0)) (v : Result Saved Stop) (f : v ≡ foreseen_of core m next) where
       foreseen_is : v ≡ foreseen_of core m (link_of (word_at (s ++ t) at))
       foreseen_is = f ∙ ap (foreseen_of core m) (next_is next n)
 
@@ -69,10 +68,10 @@ module _ (core s t : List ℕ) (b c : Address) where
       pub save_foreseen : stops_of v ≡ true → saving v core m ≡ save_of half words core m
       save_foreseen g = by v g ∙ save_is
         where
-          by : (v : Saved) → stops_of v ≡ true → saving v core m ≡ saved_by half words at core m v
-          by (Stops x) g = refl
-          by Done g = absurd (let z : ◌≡◌ {A = ℕ} 0 1 = cc in omega arith)
-          by Depleted g = absurd (let z : ◌≡◌ {A = ℕ} 0 1 = cc in omega arith)
+          by : (v : Result Saved Stop) → stops_of v ≡ true → saving v core m ≡ saved_by half words at core m v
+          by (Err x) g = refl
+          by (Ok Done) g = absurd (let z : ◌≡◌ {A = ℕ} 0 1 = cc in omega arith)
+          by (Ok Depleted) g = absurd (let z : ◌≡◌ {A = ℕ} 0 1 = cc in omega arith)
 
       -- it is made
       pub save_made : stops_of v ≡ false → (x : Spot) → x ≡ spot_of m l → (core' bytes' : List ℕ) (k : ℕ)
@@ -83,10 +82,10 @@ module _ (core s t : List ℕ) (b c : Address) where
           is : taken core' bytes' ≡ take_of half words at core (s ++ t)
           is = q ∙ taken_is half words next n x h
 
-          made : (v : Saved) → saving v core' (memory (windows b k c) bytes') ≡ taking v m.windows (take_of half words at core (s ++ t))
+          made : (v : Result Saved Stop) → saving v core' (memory (windows b k c) bytes') ≡ taking v m.windows (take_of half words at core (s ++ t))
           made v = ap₂ (λ (j : ℕ) (z : Taken). saving v z.core (memory (windows b j c) z.bytes)) e is
 
-          by : (v : Saved) → stops_of v ≡ false → saving v core' (memory (windows b k c) bytes') ≡ saved_by half words at core m v
-          by (Stops x) g = absurd (let z : ◌≡◌ {A = ℕ} 0 1 = cc in omega arith)
-          by Done g = made Done
-          by Depleted g = made Depleted
+          by : (v : Result Saved Stop) → stops_of v ≡ false → saving v core' (memory (windows b k c) bytes') ≡ saved_by half words at core m v
+          by (Err x) g = absurd (let z : ◌≡◌ {A = ℕ} 0 1 = cc in omega arith)
+          by (Ok Done) g = made (Ok Done)
+          by (Ok Depleted) g = made (Ok Depleted)

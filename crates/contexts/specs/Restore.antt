@@ -1,19 +1,17 @@
 -- A return (002, 4.6.2): the area at PCXI's link is loaded, and FCX is written over its first word.
-use Rattle.std.specs.Prelude.{ℕ, List}
+use Rattle.std.specs.Prelude.{ℕ, List, Err, None, Ok, Option, Result, Some, ⊤}
 use Rattle.std.proofs.lemmas.List.Edits.{sets}
 use Rattle.memory.specs.Memory.{Windows, Memory, memory}
 use Rattle.memory.specs.Word.{word_at, words_at, put_word}
 use Rattle.fields.specs.Link.{link_of}
 use Rattle.areas.specs.Place.{place_of}
 use Rattle.areas.specs.Area.{area_at}
-use Rattle.areas.specs.declared.link.Place.{Place}
-use Rattle.areas.specs.declared.link.Place.TheVariants as place
 use Rattle.registers.specs.Registers.{registers, pcxi, fcx, with_psw, with_pcxi, with_fcx}
 use Rattle.registers.specs.declared.Registers.{Registers}
 use Rattle.contexts.specs.declared.context.Half.{Half}
 use Rattle.contexts.specs.declared.context.Half.TheVariants.{Upper, Lower}
-use Rattle.contexts.specs.declared.restore.Returned.{Returned}
-use Rattle.contexts.specs.declared.restore.Returned.TheVariants.{Done, Outside}
+use Rattle.events.specs.declared.event.Stop.{Stop}
+use Rattle.events.specs.declared.event.Stop.TheVariants.{Outside}
 
 -- the registers of a half, from the 64 bytes of an area: A10 to A15, D8 to D15 and PSW, or A2 to A7 and D0 to D7
 abbrev pub half_of : Half → List ℕ → Registers → Registers
@@ -37,19 +35,19 @@ loaded_of half at r bytes =
 
 -- what a return comes to, and the registers and the memory after it
 pub record Returning : Type 0 where
-  pub returned : Returned
+  pub returned : Result ⊤ Stop
   pub registers : Registers
   pub memory : Memory
 
-abbrev pub returning : Returned → Registers → Memory → Returning
+abbrev pub returning : Result ⊤ Stop → Registers → Memory → Returning
 returning s r m = record { returned = s; registers = r; memory = m }
 
 abbrev pub loading : Windows → Loaded → Returning
-loading w l = returning Done l.registers (memory w l.bytes)
+loading w l = returning (Ok tt) l.registers (memory w l.bytes)
 
-abbrev pub return_by : Half → Registers → Memory → Place → Returning
-return_by half r m place.Outside = returning Outside r m
-return_by half r m (place.At at) = loading m.windows (loaded_of half at r m.bytes)
+abbrev pub return_by : Half → Registers → Memory → Option ℕ → Returning
+return_by half r m None = returning (Err Outside) r m
+return_by half r m (Some at) = loading m.windows (loaded_of half at r m.bytes)
 
 -- a return to a half. An area that neither window has leaves all as it was
 unfoldable pub return_of : Half → Registers → Memory → Returning

@@ -1,32 +1,29 @@
 -- A save (002, 4.3 and 4.6.1): the area at FCX, its context, and the heads of the lists.
-use Rattle.std.specs.Prelude.{ℕ, Bool, true, false, cond, List, length, get_or, set, eqb}
+use Rattle.std.specs.Prelude.{ℕ, Bool, true, false, cond, List, length, get_or, set, eqb, Err, None, Ok, Option, Result, Some}
 use Rattle.memory.specs.Memory.{Windows, Memory, memory}
 use Rattle.memory.specs.Word.{word_at, put_words}
 use Rattle.fields.specs.Link.{link_of}
 use Rattle.areas.specs.Link.{area_address}
 use Rattle.fields.specs.declared.link.Link.{Link}
 use Rattle.areas.specs.Place.{placed}
-use Rattle.areas.specs.declared.link.Place.{Place}
-use Rattle.areas.specs.declared.link.Place.TheVariants as place
 use Rattle.fields.specs.Pcxi.{pcxi_of}
 use Rattle.registers.specs.Core.{PCXI, FCX, LCX, ICR}
 use Rattle.events.specs.declared.event.Stop.TheVariants.{NoArea, Outside}
 use Rattle.contexts.specs.Context.{ul_of}
 use Rattle.contexts.specs.declared.context.Half.{Half}
-use Rattle.contexts.specs.declared.save.Room.{Room}
-use Rattle.contexts.specs.declared.save.Room.TheVariants as room
+use Rattle.events.specs.declared.event.Stop.{Stop}
 use Rattle.contexts.specs.declared.save.Saved.{Saved}
-use Rattle.contexts.specs.declared.save.Saved.TheVariants.{Done, Depleted, Stops}
+use Rattle.contexts.specs.declared.save.Saved.TheVariants.{Depleted, Done}
 
-abbrev pub room_by : Place → Room
-room_by (place.At at) = room.At at
-room_by place.Outside = room.Stops Outside
+abbrev pub room_by : Option ℕ → Result ℕ Stop
+room_by (Some at) = Ok at
+room_by None = Err Outside
 
 -- the area that a link names, for a save: 11 where the link is 0, 12 where neither window has the area
-unfoldable pub room_at : Windows → ℕ → Link → Room
-room_at w len l = cond (eqb l.0 0) (room.Stops NoArea) (room_by (placed w len (area_address l)))
+unfoldable pub room_at : Windows → ℕ → Link → Result ℕ Stop
+room_at w len l = cond (eqb l.0 0) (Err NoArea) (room_by (placed w len (area_address l)))
 
-abbrev pub room_of : Memory → Link → Room
+abbrev pub room_of : Memory → Link → Result ℕ Stop
 room_of m l = room_at m.windows (length m.bytes) l
 
 -- the core registers and the bytes of both windows after an area was taken
@@ -50,44 +47,44 @@ take_of half words at core bytes = taken (heads_of half (link_of (word_at bytes 
 
 -- what a save comes to, and the core registers and the memory after it
 pub record Saving : Type 0 where
-  pub saved : Saved
+  pub saved : Result Saved Stop
   pub core : List ℕ
   pub memory : Memory
 
-abbrev pub saving : Saved → List ℕ → Memory → Saving
+abbrev pub saving : Result Saved Stop → List ℕ → Memory → Saving
 saving s core m = record { saved = s; core = core; memory = m }
 
-abbrev pub taking : Saved → Windows → Taken → Saving
+abbrev pub taking : Result Saved Stop → Windows → Taken → Saving
 taking s w t = saving s t.core (memory w t.bytes)
 
 -- where the area taken is LCX's an FCD entry follows, if there is an area for it too: known before anything is written
-abbrev pub foreseen_by : Room → Saved
-foreseen_by (room.Stops s) = Stops s
-foreseen_by (room.At second) = Depleted
+abbrev pub foreseen_by : Result ℕ Stop → Result Saved Stop
+foreseen_by (Err s) = Err s
+foreseen_by (Ok second) = Ok Depleted
 
-unfoldable pub foreseen_of : List ℕ → Memory → Link → Saved
+unfoldable pub foreseen_of : List ℕ → Memory → Link → Result Saved Stop
 foreseen_of core m next =
     let fcx = get_or core FCX 0 in
     let lcx = get_or core LCX 0 in
-    cond (eqb (link_of fcx).0 (link_of lcx).0) (foreseen_by (room_of m next)) Done
+    cond (eqb (link_of fcx).0 (link_of lcx).0) (foreseen_by (room_of m next)) (Ok Done)
 
-abbrev pub stops_of : Saved → Bool
-stops_of (Stops s) = true
-stops_of Done = false
-stops_of Depleted = false
+abbrev pub stops_of : Result Saved Stop → Bool
+stops_of (Err s) = true
+stops_of (Ok Done) = false
+stops_of (Ok Depleted) = false
 
-abbrev pub saved_by : Half → List ℕ → ℕ → List ℕ → Memory → Saved → Saving
-saved_by half words at core m (Stops s) = saving (Stops s) core m
-saved_by half words at core m Done = taking Done m.windows (take_of half words at core m.bytes)
-saved_by half words at core m Depleted = taking Depleted m.windows (take_of half words at core m.bytes)
+abbrev pub saved_by : Half → List ℕ → ℕ → List ℕ → Memory → Result Saved Stop → Saving
+saved_by half words at core m (Err s) = saving (Err s) core m
+saved_by half words at core m (Ok Done) = taking (Ok Done) m.windows (take_of half words at core m.bytes)
+saved_by half words at core m (Ok Depleted) = taking (Ok Depleted) m.windows (take_of half words at core m.bytes)
 
 -- a save into the area at byte `at`
 unfoldable pub save_at_of : Half → List ℕ → ℕ → List ℕ → Memory → Saving
 save_at_of half words at core m = saved_by half words at core m (foreseen_of core m (link_of (word_at m.bytes at)))
 
-abbrev pub save_by : Half → List ℕ → List ℕ → Memory → Room → Saving
-save_by half words core m (room.Stops s) = saving (Stops s) core m
-save_by half words core m (room.At at) = save_at_of half words at core m
+abbrev pub save_by : Half → List ℕ → List ℕ → Memory → Result ℕ Stop → Saving
+save_by half words core m (Err s) = saving (Err s) core m
+save_by half words core m (Ok at) = save_at_of half words at core m
 
 -- a save of sixteen words into the area at FCX. A stop leaves all as it was
 unfoldable pub save_of : Half → List ℕ → List ℕ → Memory → Saving

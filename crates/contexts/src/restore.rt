@@ -1,10 +1,9 @@
 // A return: the area at PCXI's link is loaded, and goes first on the free list.
 
-ghost use Rattle.std.specs.Prelude.{◌≡◌, ◌++◌, length, get_or};
+ghost use Rattle.std.specs.Prelude.{◌≡◌, ◌++◌, length, get_or, Some};
 ghost use Rattle.memory.specs.Memory.{lent};
 ghost use Rattle.fields.specs.Link.{link_of};
 ghost use Rattle.areas.specs.Place.{place_of, LiesIn, offset};
-ghost use Rattle.areas.specs.declared.link.Place.TheVariants as place;
 ghost use Rattle.registers.specs.Core.{PCXI};
 ghost use Rattle.registers.specs.Registers.{registers};
 ghost use Rattle.contexts.specs.Restore.{loaded, loaded_of, returning, return_of};
@@ -36,7 +35,7 @@ fn load_upper(
     at: Spot,
 )
     requires lies { LiesIn (length window.old) (length window2.old) 64 at }
-    requires found { place_of (lent base window.old base2 window2.old) (link_of (get_or core.old PCXI 0)) ≡ place.At (offset (length window.old) at) }
+    requires found { place_of (lent base window.old base2 window2.old) (link_of (get_or core.old PCXI 0)) ≡ Some (offset (length window.old) at) }
     ensures loaded { loaded (registers d.new a.new core.new) (window.new ++ window2.new) ≡ loaded_of Half.Upper (offset (length window.old) at) (registers d.old a.old core.old) (window.old ++ window2.old) }
     ensures length_kept { length window.new ≡ length window.old }
 {
@@ -64,7 +63,7 @@ fn load_lower(
     at: Spot,
 )
     requires lies { LiesIn (length window.old) (length window2.old) 64 at }
-    requires found { place_of (lent base window.old base2 window2.old) (link_of (get_or core.old PCXI 0)) ≡ place.At (offset (length window.old) at) }
+    requires found { place_of (lent base window.old base2 window2.old) (link_of (get_or core.old PCXI 0)) ≡ Some (offset (length window.old) at) }
     ensures loaded { loaded (registers d.new a.new core.new) (window.new ++ window2.new) ≡ loaded_of Half.Lower (offset (length window.old) at) (registers d.old a.old core.old) (window.old ++ window2.old) }
     ensures length_kept { length window.new ≡ length window.old }
 {
@@ -91,7 +90,7 @@ fn load(
     half: Half,
 )
     requires lies { LiesIn (length window.old) (length window2.old) 64 at }
-    requires found { place_of (lent base window.old base2 window2.old) (link_of (get_or core.old PCXI 0)) ≡ place.At (offset (length window.old) at) }
+    requires found { place_of (lent base window.old base2 window2.old) (link_of (get_or core.old PCXI 0)) ≡ Some (offset (length window.old) at) }
     ensures loaded { loaded (registers d.new a.new core.new) (window.new ++ window2.new) ≡ loaded_of half (offset (length window.old) at) (registers d.old a.old core.old) (window.old ++ window2.old) }
     ensures length_kept { length window.new ≡ length window.old }
 {
@@ -111,16 +110,16 @@ pub fn restore(
     a: &mut [u32; 16],
     core: &mut [u32; CORE],
     half: Half,
-) -> Returned
+) -> Result<(), Stop>
     ensures { returning result (registers d.new a.new core.new) (lent base window.new base2 window2.new) ≡ return_of half (registers d.old a.old core.old) (lent base window.old base2 window2.old) }
 {
     let link = link_of(core[PCXI]);
     match locate(base, window, base2, window2, link) {
-        Place::Outside => Returned::Outside,
-        Place::At(_) => {
+        None => Err(Stop::Outside),
+        Some(_) => {
             let at = spot_of(base, window, base2, window2, link);
             load(base, window, base2, window2, d, a, core, at, half);
-            Returned::Done
+            Ok(())
         }
     }
 }

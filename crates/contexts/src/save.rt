@@ -32,15 +32,15 @@ pub enum Saved {
 }
 
 // The area that a link names, for a save.
-pub fn find(base: Address, window: &[u8], base2: Address, window2: &[u8], l: Link) -> Room
+pub fn find(base: Address, window: &[u8], base2: Address, window2: &[u8], l: Link) -> Result<usize, Stop>
     ensures { result ≡ room_of (lent base window.now base2 window2.now) l }
 {
     if l.0 == 0 {
-        return Room::Stops(Stop::NoArea);
+        return Err(Stop::NoArea);
     }
     match locate(base, window, base2, window2, l) {
-        Place::At(at) => Room::At(at),
-        Place::Outside => Room::Stops(Stop::Outside),
+        Some(at) => Ok(at),
+        None => Err(Stop::Outside),
     }
 }
 
@@ -52,27 +52,27 @@ fn foresee(
     window2: &[u8],
     core: &[u32; CORE],
     next: Link,
-) -> Saved
+) -> Result<Saved, Stop>
     ensures { result ≡ foreseen_of core.now (lent base window.now base2 window2.now) next }
 {
     let taken = link_of(core[FCX]);
     let limit = link_of(core[LCX]);
     if taken.0 != limit.0 {
-        return Saved::Done;
+        return Ok(Saved::Done);
     }
     match find(base, window, base2, window2, next) {
-        Room::Stops(s) => Saved::Stops(s),
-        Room::At(_) => Saved::Depleted,
+        Err(s) => Err(s),
+        Ok(_) => Ok(Saved::Depleted),
     }
 }
 
-fn stops(saved: Saved) -> bool
+fn stops(saved: Result<Saved, Stop>) -> bool
     ensures { result ≡ stops_of saved }
 {
     match saved {
-        Saved::Stops(_) => true,
-        Saved::Done => false,
-        Saved::Depleted => false,
+        Err(_) => true,
+        Ok(Saved::Done) => false,
+        Ok(Saved::Depleted) => false,
     }
 }
 
@@ -104,13 +104,13 @@ pub fn save_upper(
     d: &[u32; 16],
     a: &[u32; 16],
     core: &mut [u32; CORE],
-) -> Saved
+) -> Result<Saved, Stop>
     ensures { saving result core.new (lent base window.new base2 window2.new) ≡ save_of Half.Upper (upper_of (registers d.now a.now core.old)) core.old (lent base window.old base2 window2.old) }
 {
     let l = link_of(core[FCX]);
     match find(base, window, base2, window2, l) {
-        Room::Stops(s) => Saved::Stops(s),
-        Room::At(_) => {
+        Err(s) => Err(s),
+        Ok(_) => {
             let at = spot_of(base, window, base2, window2, l);
             let next = next_link(base, window, base2, window2, l);
             let saved = foresee(base, window, base2, window2, core, next);
@@ -134,13 +134,13 @@ pub fn save_lower(
     a: &[u32; 16],
     core: &mut [u32; CORE],
     pc: u32,
-) -> Saved
+) -> Result<Saved, Stop>
     ensures { saving result core.new (lent base window.new base2 window2.new) ≡ save_of Half.Lower (lower_of pc (registers d.now a.now core.old)) core.old (lent base window.old base2 window2.old) }
 {
     let l = link_of(core[FCX]);
     match find(base, window, base2, window2, l) {
-        Room::Stops(s) => Saved::Stops(s),
-        Room::At(_) => {
+        Err(s) => Err(s),
+        Ok(_) => {
             let at = spot_of(base, window, base2, window2, l);
             let next = next_link(base, window, base2, window2, l);
             let saved = foresee(base, window, base2, window2, core, next);

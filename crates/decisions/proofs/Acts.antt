@@ -31,14 +31,10 @@ use Rattle.acts.specs.Acts.{Act, Ends, Write, Save, Return}
 use Rattle.accesses.specs.Load.{address_in}
 use Rattle.accesses.specs.Reach.{reach_of}
 use Rattle.accesses.specs.Store.{size_of, alignment_of, value_of, store_by, store_of}
-use Rattle.accesses.specs.declared.reach.Reach.{Reach}
-use Rattle.accesses.specs.declared.reach.Reach.TheVariants as reach
 use Rattle.accesses.proofs.Reaches.{reach_inside}
 use Rattle.calls.specs.Saves.{call_of, svlcx_of, bisr_of}
 use Rattle.calls.specs.Returns.{is_of, previous_of, if_there, ret_of, rfe_of, rslcx_of}
 use Rattle.calls.specs.Instructions.{context_op}
-use Rattle.calls.specs.declared.returns.Previous.{Previous}
-use Rattle.calls.specs.declared.returns.Previous.TheVariants.{There, Traps}
 use Rattle.execute.specs.Execute.{act_by, act_of}
 use Rattle.decisions.specs.Valid.{Valid, Bytes}
 use Rattle.decisions.specs.Heads.{writes_head}
@@ -49,6 +45,8 @@ use Rattle.decisions.proofs.Sound.{Sound, EndsSound, TrapBytes, sound_start}
 use Rattle.decisions.proofs.Families.{Decoded, small, onward, integer_sound, move_sound, jump_sound, load_sound, ReachBytes, reach_bytes}
 use Rattle.decisions.proofs.Systems.{system_sound}
 use Rattle.decisions.proofs.Thens.{Then, ReturnThen, called_then_lem, pc_then, bisr_then_lem, called_level, pc_level, bisr_level, return_pc, return_rfe}
+use Rattle.std.specs.Prelude.{Err, Ok, Result, ⊤}
+use Rattle.events.specs.declared.trap.Trap.{Trap}
 
 -- an area is there to return to, of that half
 pub record HasPrevious (half : Half) (word : ℕ) : Type 0 where
@@ -69,9 +67,9 @@ module _ (quiet : Type 0) {r : Registers} (w : Valid r) (i : Instruction) (o : D
   value_word StW = w.d.each i.c
   value_word StA = w.a.each i.c
 
-  reached_sound : (rs : List Range) (op : Store) (p : Reach) → reach_of m.windows (length m.bytes) r.core rs right.Write false (size_of op) (alignment_of op) (address_in i r.a) ≡ p → ReachBytes p → ActSound quiet r m (store_by op i r p)
-  reached_sound rs op (reach.Traps t) e h = h
-  reached_sound rs op (reach.At at) e h = (onward quiet w {i = i} o (sound_start w), value_word op, (reach_inside _ _ _ _ _ _ _ _ _ at e).inside)
+  reached_sound : (rs : List Range) (op : Store) (p : Result ℕ Trap) → reach_of m.windows (length m.bytes) r.core rs right.Write false (size_of op) (alignment_of op) (address_in i r.a) ≡ p → ReachBytes p → ActSound quiet r m (store_by op i r p)
+  reached_sound rs op (Err t) e h = h
+  reached_sound rs op (Ok at) e h = (onward quiet w {i = i} o (sound_start w), value_word op, (reach_inside _ _ _ _ _ _ _ _ _ at e).inside)
 
   pub store_sound : (rs : List Range) (op : Store) → ActSound quiet r m (store_of op i r rs m)
   unfolding store_of
@@ -89,9 +87,9 @@ module _ (quiet : Type 0) {r : Registers} (w : Valid r) (i : Instruction) (o : D
       either_has (ActSound quiet r m) (is_supervisor (psw r)) (o.next, bisr_then_lem i.imm i.next o.next o.even, bisr_level i.imm i.next) (small (omega arith) (omega arith))
 
   -- returns
-  abbrev PreviousSays : Half → Previous → Type 0
-  PreviousSays half There = HasPrevious half (pcxi r)
-  PreviousSays half (Traps t) = TrapBytes t
+  abbrev PreviousSays : Half → Result ⊤ Trap → Type 0
+  PreviousSays half (Ok tt) = HasPrevious half (pcxi r)
+  PreviousSays half (Err t) = TrapBytes t
 
   half_is : (half : Half) → is_of half (pcxi r) ≡ true → pcxi_ul (pcxi r) ≡ ul_of half
   half_is Upper e = e
@@ -107,9 +105,9 @@ module _ (quiet : Type 0) {r : Registers} (w : Valid r) (i : Instruction) (o : D
       either_knows (PreviousSays half) (eqb (link_of (pcxi r)).0 0) (λ e. small (omega arith) (omega arith))
       (λ e. either_knows (PreviousSays half) (is_of half (pcxi r)) (λ f. record { linked = eqb-false (link_of (pcxi r)).0 0 e; is_of_lem = half_is half f }) (λ f. small (omega arith) (omega arith)))
 
-  there_sound : (half : Half) (act : Act) → (HasPrevious half (pcxi r) → ActSound quiet r m act) → (p : Previous) → PreviousSays half p → ActSound quiet r m (if_there act p)
-  there_sound half act k (Traps t) h = h
-  there_sound half act k There h = k h
+  there_sound : (half : Half) (act : Act) → (HasPrevious half (pcxi r) → ActSound quiet r m act) → (p : Result ⊤ Trap) → PreviousSays half p → ActSound quiet r m (if_there act p)
+  there_sound half act k (Err t) h = h
+  there_sound half act k (Ok tt) h = k h
 
   to_word : Word (new_pc (A r 11))
   to_word = even_word (A r 11) (w.a.each 11)

@@ -12,25 +12,22 @@ use Rattle.events.specs.declared.trap.Trap.{Trap}
 use Rattle.protection.specs.declared.range.Range.{Range}
 use Rattle.protection.specs.declared.range.Right.TheVariants.{Execute}
 use Rattle.protection.specs.Access.{check_of}
-use Rattle.protection.specs.declared.access.Check.{Check}
-use Rattle.protection.specs.declared.access.Check.TheVariants.{Passes, Fails}
 use Rattle.interrupts.specs.Sources.{best_of, takes, cleared_at}
 use Rattle.image.specs.Fetch.{fetch_of}
 use Rattle.image.specs.declared.fetch.Instruction.{Instruction}
-use Rattle.image.specs.declared.fetch.Fetched.{Fetched}
-use Rattle.image.specs.declared.fetch.Fetched.TheVariants.{Found, Nothing}
 use Rattle.entries.specs.Entry.{MadeOf, enter_of}
 use Rattle.entries.specs.declared.entry.Cause.TheVariants as cause
 use Rattle.execute.specs.Decision.{performed_of}
 use Rattle.execute.specs.Execute.{execute_of}
 use Rattle.decisions.specs.Beginning.{Traps, Executes, check_begins, fetching_at, beginning_of}
 use Rattle.decisions.specs.Decision.{decided_by, decision_of, one_of, cleared_by, requests_of}
+use Rattle.std.specs.Prelude.{Err, None, Ok, Option, Result, Some, ⊤}
 
 -- a fetch clears no request
-clears_none : (xs : List ℕ) (c : Check) (f : Fetched) → cleared_by xs (check_begins c f) ≡ xs
-clears_none xs (Fails t) f = refl
-clears_none xs Passes Nothing = refl
-clears_none xs Passes (Found i) = refl
+clears_none : (xs : List ℕ) (c : Result ⊤ Trap) (f : Option Instruction) → cleared_by xs (check_begins c f) ≡ xs
+clears_none xs (Err t) f = refl
+clears_none xs (Ok tt) None = refl
+clears_none xs (Ok tt) (Some i) = refl
 
 fetch_clears : (xs img core : List ℕ) (rs : List Range) (pc : ℕ) → cleared_by xs (fetching_at img core rs pc) ≡ xs
 unfolding fetching_at

@@ -14,15 +14,11 @@ use Rattle.registers.specs.declared.Registers.{Registers}
 use Rattle.protection.specs.Access.{check_of}
 use Rattle.protection.specs.declared.range.Range.{Range}
 use Rattle.protection.specs.declared.range.Right.TheVariants as right
-use Rattle.protection.specs.declared.access.Check.{Check}
-use Rattle.protection.specs.declared.access.Check.TheVariants.{Passes, Fails}
 use Rattle.interrupts.specs.Sources.{best_of, takes}
 use Rattle.interrupts.proofs.Sources.{level_byte}
 use Rattle.image.specs.Rest.{rest_of}
 use Rattle.image.specs.Fetch.{instruction_at, fetch_of}
 use Rattle.image.proofs.Addresses.{length_says}
-use Rattle.image.specs.declared.fetch.Fetched.{Fetched}
-use Rattle.image.specs.declared.fetch.Fetched.TheVariants.{Found, Nothing}
 use Rattle.acts.specs.Acts as acts
 use Rattle.acts.specs.Acts.{Act, Effect}
 use Rattle.accesses.specs.Store.{size_of}
@@ -38,6 +34,9 @@ use Rattle.decisions.proofs.Sound.{Sound, TrapBytes, EndsSound}
 use Rattle.decisions.proofs.Families.{Decoded, small, CheckBytes, check_bytes}
 use Rattle.decisions.proofs.Thens.{Then, ReturnThen, trap_then, interrupt_then}
 use Rattle.decisions.proofs.Acts.{HasPrevious, ActSound, act_sound}
+use Rattle.std.specs.Prelude.{Err, None, Ok, Option, Result, Some, ⊤}
+use Rattle.image.specs.declared.fetch.Instruction.{Instruction}
+use Rattle.events.specs.declared.trap.Trap.{Trap}
 
 abbrev pub DecisionSound : Type 0 → Registers → Memory → Decision → Type 0
 DecisionSound quiet r m (Keep q) = Sound quiet r q
@@ -72,15 +71,15 @@ module _ {img : List ℕ} (b : Bytes img) (pc : ℕ) (e : pc % 2 ≡ 0) where
 
   fetch_known : Known (fetch_begins (fetch_of img pc))
   unfolding fetch_of
-  fetch_known = either_has (λ (f : Fetched). Known (fetch_begins f)) (eqb (rest_of img pc).records 0) {x = Nothing} {y = Found (instruction_at img (rest_of img pc).at pc)} (small (omega arith) (omega arith)) (decoded_at _)
+  fetch_known = either_has (λ (f : Option Instruction). Known (fetch_begins f)) (eqb (rest_of img pc).records 0) {x = None} {y = Some (instruction_at img (rest_of img pc).at pc)} (small (omega arith) (omega arith)) (decoded_at _)
 
   pub fetching_known : (core : List ℕ) (rs : List Range) → Known (fetching_at img core rs pc)
   unfolding fetching_at
   fetching_known core rs = by (check_of core rs right.Execute (as_address pc)) (check_bytes core rs right.Execute (as_address pc))
     where
-      by : (c : Check) → CheckBytes c → Known (check_begins c (fetch_of img pc))
-      by (Fails t) h = h
-      by Passes h = fetch_known
+      by : (c : Result ⊤ Trap) → CheckBytes c → Known (check_begins c (fetch_of img pc))
+      by (Err t) h = h
+      by (Ok tt) h = fetch_known
 
 module _ {img : List ℕ} (bi : Bytes img) {r : Registers} (w : Valid r) (xs : List ℕ) (rs : List Range) where
   beginning_known : Known (beginning_of img r.core xs rs)

@@ -32,21 +32,17 @@ use Rattle.protection.specs.Access.{denied_of, check_of, peripheral}
 use Rattle.protection.specs.declared.range.Range.{Range}
 use Rattle.protection.specs.declared.range.Right.{Right}
 use Rattle.protection.specs.declared.range.Right.TheVariants as right
-use Rattle.protection.specs.declared.access.Check.{Check}
-use Rattle.protection.specs.declared.access.Check.TheVariants.{Passes, Fails}
 use Rattle.areas.specs.Place.{placed_at}
-use Rattle.areas.specs.declared.link.Place.{Place}
-use Rattle.areas.specs.declared.link.Place.TheVariants as place
 use Rattle.moves.specs.Moves.{integer_of, address_write, move_of}
 use Rattle.jumps.specs.Jumps.{target_of, branch_of, holds, compare_of, loop_of, jump_of}
 use Rattle.accesses.specs.Reach.{placed_reach, aligned_reach, checked_reach, reach_of}
 use Rattle.accesses.specs.Load.{address_in, loads_address, read_of, put_of, load_by, load_of, size_of, alignment_of}
-use Rattle.accesses.specs.declared.reach.Reach.{Reach}
-use Rattle.accesses.specs.declared.reach.Reach.TheVariants.{At, Traps}
 use Rattle.decisions.specs.Valid.{Valid, Bytes}
 use Rattle.decisions.proofs.Setters.{even_word, even_even}
 use Rattle.decisions.proofs.Values.{Word, either_has, second_word, plus_word, minus_word, read_word}
 use Rattle.decisions.proofs.Sound.{Sound, EndsSound, TrapBytes, sound_start, sound_d, sound_a, sound_psw, sound_pc}
+use Rattle.std.specs.Prelude.{Err, None, Ok, Option, Result, Some, ⊤}
+use Rattle.events.specs.declared.trap.Trap.{Trap}
 
 -- the immediate is a word, and the next instruction's address one that is even
 pub record Decoded (i : Instruction) : Type 0 where
@@ -123,9 +119,9 @@ module _ (quiet : Type 0) {r : Registers} (w : Valid r) where
     jump_sound Loop = loop_sound
 
 -- what protection says is a trap of bytes
-abbrev pub CheckBytes : Check → Type 0
-CheckBytes Passes = Unit {0}
-CheckBytes (Fails t) = TrapBytes t
+abbrev pub CheckBytes : Result ⊤ Trap → Type 0
+CheckBytes (Ok tt) = Unit {0}
+CheckBytes (Err t) = TrapBytes t
 
 denied_bytes : (right : Right) → TrapBytes (denied_of right)
 denied_bytes right.Read = small (omega arith) (omega arith)
@@ -141,14 +137,14 @@ check_bytes core rs right address =
     either_has CheckBytes (peripheral address) (either_has CheckBytes (is_user0 (get_or core 1 0)) peripheral_bytes tt) (either_has CheckBytes (not (syscon_proten (get_or core 9 0)) || permitted rs (psw_prs (get_or core 1 0)) right address) tt (denied_bytes right))
 
 -- and so are those of an access to data
-abbrev pub ReachBytes : Reach → Type 0
-ReachBytes (At at) = Unit {0}
-ReachBytes (Traps t) = TrapBytes t
+abbrev pub ReachBytes : Result ℕ Trap → Type 0
+ReachBytes (Ok at) = Unit {0}
+ReachBytes (Err t) = TrapBytes t
 
 module _ (w : Windows) (len : ℕ) (core : List ℕ) (rs : List Range) (right : Right) (guarded : Bool) (size alignment : ℕ) (address : Address) where
-  placed_bytes : (p : Place) → ReachBytes (placed_reach p)
-  placed_bytes place.Outside = small (omega arith) (omega arith)
-  placed_bytes (place.At at) = tt
+  placed_bytes : (p : Option ℕ) → ReachBytes (placed_reach p)
+  placed_bytes None = small (omega arith) (omega arith)
+  placed_bytes (Some at) = tt
 
   aligned_bytes : ReachBytes (aligned_reach w len guarded size alignment address)
   unfolding aligned_reach
@@ -156,9 +152,9 @@ module _ (w : Windows) (len : ℕ) (core : List ℕ) (rs : List Range) (right : 
       either_has ReachBytes guarded (small (omega arith) (omega arith))
       (either_has ReachBytes (eqb (address.0 % alignment) 0) (placed_bytes (placed_at w len size address)) (small (omega arith) (omega arith)))
 
-  checked_bytes : (c : Check) → CheckBytes c → ReachBytes (checked_reach c (aligned_reach w len guarded size alignment address))
-  checked_bytes (Fails t) h = h
-  checked_bytes Passes h = aligned_bytes
+  checked_bytes : (c : Result ⊤ Trap) → CheckBytes c → ReachBytes (checked_reach c (aligned_reach w len guarded size alignment address))
+  checked_bytes (Err t) h = h
+  checked_bytes (Ok tt) h = aligned_bytes
 
   pub reach_bytes : ReachBytes (reach_of w len core rs right guarded size alignment address)
   unfolding reach_of
@@ -173,9 +169,9 @@ module _ (quiet : Type 0) {r : Registers} (w : Valid r) (i : Instruction) (o : D
   put_sound LdW v h = sound_d (sound_start w) i.c v h
   put_sound LdA v h = sound_a (sound_start w) i.c v h
 
-  reached_sound : (op : Load) (p : Reach) → ReachBytes p → EndsSound quiet r (load_by op i r m p)
-  reached_sound op (Traps t) h = h
-  reached_sound op (At at) h = onward quiet w {i = i} o (put_sound op (read_of op m.bytes at) (read_word b op at))
+  reached_sound : (op : Load) (p : Result ℕ Trap) → ReachBytes p → EndsSound quiet r (load_by op i r m p)
+  reached_sound op (Err t) h = h
+  reached_sound op (Ok at) h = onward quiet w {i = i} o (put_sound op (read_of op m.bytes at) (read_word b op at))
 
   pub load_sound : (rs : List Range) (op : Load) → EndsSound quiet r (load_of op i r rs m)
   unfolding load_of

@@ -14,7 +14,6 @@ use Rattle.memory.proofs.Same.{Same}
 use Rattle.fields.specs.Psw.{psw_prs}
 use Rattle.fields.specs.Syscon.{syscon_proten}
 use Rattle.areas.specs.Place.{placed_at}
-use Rattle.areas.specs.declared.link.Place.TheVariants as place
 use Rattle.registers.specs.Registers.{psw, syscon, with_pc, guards}
 use Rattle.registers.specs.declared.Registers.{Registers}
 use Rattle.protection.specs.Range.{permitted}
@@ -31,8 +30,6 @@ use Rattle.acts.specs.Acts.{Ends, Sets}
 use Rattle.accesses.specs.Reach.{reach_of}
 use Rattle.accesses.specs.Load.{extend_byte, size_of, alignment_of, loads_address, read_of, put_of, load_by, load_of, address_in}
 use Rattle.accesses.specs.Store.{store_of}
-use Rattle.accesses.specs.declared.reach.Reach.{Reach}
-use Rattle.accesses.specs.declared.reach.Reach.TheVariants.{At, Traps}
 use Rattle.accesses.proofs.Reaches.{reach_passes, reach_found}
 use Rattle.execute.specs.Decision.{act_decides}
 use Rattle.execute.specs.Execute.{act_by, act_of}
@@ -40,10 +37,12 @@ use Rattle.decisions.specs.Beginning as beginning
 use Rattle.decisions.specs.Beginning.{Beginning, beginning_of}
 use Rattle.decisions.specs.Decision.{decided_by, decision_of}
 use Rattle.decisions.proofs.Levels.{User}
+use Rattle.std.specs.Prelude.{Err, Ok, Result, Some}
+use Rattle.events.specs.declared.trap.Trap.{Trap}
 
 -- the bytes that a permitted load reaches are the same
 pub record Shows (same : ℕ → Type 0) (w : Windows) (len : ℕ) (rs : List Range) (set : ℕ) : Type 0 where
-  pub reads : (address : Address) (size at : ℕ) → size ≤ 4 → placed_at w len size address ≡ place.At at → permitted rs set right.Read address ≡ true → (k : ℕ) → at ≤ k → k < at + size → same k
+  pub reads : (address : Address) (size at : ℕ) → size ≤ 4 → placed_at w len size address ≡ Some at → permitted rs set right.Read address ≡ true → (k : ℕ) → at ≤ k → k < at + size → same k
 
 -- the task: User-0 with protection on, in the set
 pub record Task (set : ℕ) (r : Registers) : Type 0 where
@@ -82,9 +81,9 @@ module _ {same : ℕ → Type 0} (w : Windows) (s t : List ℕ) (h : Same same s
       rw h.size
       (by (reach_of w (length s) r.core rs right.Read (loads_address op && guards (psw r) i.c) (size_of op) (alignment_of op) (address_in i r.a)) refl)
     where
-      by : (p : Reach) → reach_of w (length s) r.core rs right.Read (loads_address op && guards (psw r) i.c) (size_of op) (alignment_of op) (address_in i r.a) ≡ p → load_by op i r n p ≡ load_by op i r m p
-      by (Traps x) e = refl
-      by (At at) e =
+      by : (p : Result ℕ Trap) → reach_of w (length s) r.core rs right.Read (loads_address op && guards (psw r) i.c) (size_of op) (alignment_of op) (address_in i r.a) ≡ p → load_by op i r n p ≡ load_by op i r m p
+      by (Err x) e = refl
+      by (Ok at) e =
           let a = address_in i r.a in
           let p = passes_permitted r.core rs right.Read a task.user task.on (reach_passes _ _ _ _ _ _ _ _ _ at e) in
           let q : permitted rs set right.Read a ≡ true = ap (λ (x : ℕ). permitted rs x right.Read a) (sym task.in_set) ∙ p in

@@ -10,12 +10,9 @@ use Rattle.registers.specs.Registers.{pcxi, fcx, with_pcxi, with_fcx}
 use Rattle.registers.specs.declared.Registers.{Registers}
 use Rattle.events.specs.declared.event.Event.TheVariants as event
 use Rattle.events.specs.declared.event.Stop.TheVariants as stop
-use Rattle.events.specs.declared.event.Ending.TheVariants.{Made, Stopped}
 use Rattle.fields.specs.Link.{link_of}
 use Rattle.areas.specs.Place.{place_of}
 use Rattle.areas.specs.Area.{area_at}
-use Rattle.areas.specs.declared.link.Place.{Place}
-use Rattle.areas.specs.declared.link.Place.TheVariants as place
 use Rattle.contexts.specs.Restore.{half_of, loaded_of, return_by, return_of}
 use Rattle.contexts.specs.declared.context.Half.{Half}
 use Rattle.contexts.specs.declared.context.Half.TheVariants.{Upper, Lower}
@@ -25,6 +22,7 @@ use Rattle.execute.specs.Decision.{Return, returning_by, performed_of}
 use Rattle.decisions.proofs.Setters.{valid_core}
 use Rattle.decisions.proofs.Values.{word_word}
 use Rattle.decisions.proofs.Memories.{bytes_area, words_loaded}
+use Rattle.std.specs.Prelude.{Err, None, Ok, Option, Some}
 
 -- the registers as loaded from the area at byte `at`
 abbrev pub loaded_at : Half → ℕ → Registers → List ℕ → Registers
@@ -32,17 +30,17 @@ loaded_at half at r bytes = with_fcx (link_of (pcxi r)).0 (with_pcxi (word_at (a
 
 module _ (half : Half) (then : Registers → Registers) (r : Registers) (m : Memory) where
   pub data ReturningCase : MadeOf → Type 0 where
-    outside : place_of m (link_of (pcxi r)) ≡ place.Outside → ReturningCase (made (Stopped stop.Outside) r m)
-    returns : (at : ℕ) → place_of m (link_of (pcxi r)) ≡ place.At at
-        → ReturningCase (made (Made event.Instruction) (then (loaded_at half at r m.bytes)) (memory m.windows (put_word m.bytes at (fcx r))))
+    outside : place_of m (link_of (pcxi r)) ≡ None → ReturningCase (made (Err stop.Outside) r m)
+    returns : (at : ℕ) → place_of m (link_of (pcxi r)) ≡ Some at
+        → ReturningCase (made (Ok event.Instruction) (then (loaded_at half at r m.bytes)) (memory m.windows (put_word m.bytes at (fcx r))))
 
   pub returning_case : ReturningCase (performed_of (Return half then) r m)
   unfolding return_of loaded_of
   returning_case = by (place_of m (link_of (pcxi r))) refl
     where
-      by : (x : Place) → place_of m (link_of (pcxi r)) ≡ x → ReturningCase (let v = return_by half r m x in returning_by then v.returned v.registers v.memory)
-      by place.Outside h = outside h
-      by (place.At at) h = returns at h
+      by : (x : Option ℕ) → place_of m (link_of (pcxi r)) ≡ x → ReturningCase (let v = return_by half r m x in returning_by then v.returned v.registers v.memory)
+      by None h = outside h
+      by (Some at) h = returns at h
 
 module _ {r : Registers} (w : Valid r) {bytes : List ℕ} (b : Bytes bytes) (at : ℕ) where
   half_valid : (half : Half) → Valid (half_of half (area_at bytes at) r)

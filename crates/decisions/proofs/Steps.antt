@@ -13,7 +13,6 @@ use Rattle.registers.specs.declared.Registers.{Registers}
 use Rattle.events.specs.Traps.{FCD}
 use Rattle.events.specs.declared.event.Event.{Event}
 use Rattle.events.specs.declared.event.Stop.{Stop}
-use Rattle.events.specs.declared.event.Ending.TheVariants.{Made, Stopped}
 use Rattle.protection.specs.declared.range.Range.{Range}
 use Rattle.contexts.specs.Context.{upper_of, context_of}
 use Rattle.contexts.specs.declared.context.Half.{Half}
@@ -28,9 +27,10 @@ use Rattle.decisions.proofs.Decides.{DecisionSound, decision_sound}
 use Rattle.decisions.proofs.Memories.{bytes_word, bytes_words, bytes_stored, stored_length, context_words}
 use Rattle.decisions.proofs.Savings.{after_save, saved_bytes, reached, SavingCase, lacks, lacks_second, saves, depletes, saving_case}
 use Rattle.decisions.proofs.Returnings.{ReturningCase, outside, returns, returning_case, loaded_valid}
+use Rattle.std.specs.Prelude.{Err, Ok}
 
 -- a step that is made is not stopped
-pub never_made : {e : Event} {s : Stop} → Made e ≡ Stopped s → ⊥
+pub never_made : {e : Event} {s : Stop} → Ok e ≡ Err s → ⊥
 never_made h = let z : ◌≡◌ {A = ℕ} 0 1 = cc in omega arith
 
 pub record Kept (r : Registers) (m : Memory) (x : MadeOf) : Type 0 where
@@ -38,7 +38,7 @@ pub record Kept (r : Registers) (m : Memory) (x : MadeOf) : Type 0 where
   pub size : length x.memory.bytes ≡ length m.bytes
   pub valid : Valid x.registers
   pub bytes : Bytes x.memory.bytes
-  pub leaves : (s : Stop) → x.ending ≡ Stopped s → (x.registers ≡ r) × (x.memory ≡ m)
+  pub leaves : (s : Stop) → x.ending ≡ Err s → (x.registers ≡ r) × (x.memory ≡ m)
 
 pub after_valid : (half : Half) (at : ℕ) (bytes : List ℕ) {q : Registers} → Valid q → Valid (after_save half at bytes q)
 after_valid half at bytes v = heads_valid _ _ v (pcxi_word _ _ _) (omega arith)

@@ -1,5 +1,5 @@
 -- How a step of an accepted machine begins: an interrupt is tried first, then the fetch's traps.
-use Rattle.std.specs.Prelude.{ℕ, cond, List, get_or}
+use Rattle.std.specs.Prelude.{ℕ, cond, List, get_or, Err, None, Ok, Option, Result, Some, ⊤}
 use Rattle.memory.specs.Address.{as_address}
 use Rattle.registers.specs.Core.{PC, ICR}
 use Rattle.events.specs.Traps.{CODE}
@@ -7,14 +7,10 @@ use Rattle.events.specs.declared.trap.Trap.{Trap}
 use Rattle.protection.specs.Access.{check_of}
 use Rattle.protection.specs.declared.range.Range.{Range}
 use Rattle.protection.specs.declared.range.Right.TheVariants.{Execute}
-use Rattle.protection.specs.declared.access.Check.{Check}
-use Rattle.protection.specs.declared.access.Check.TheVariants.{Passes, Fails}
 use Rattle.interrupts.specs.Sources.{best_of, takes}
 use Rattle.interrupts.specs.declared.Best.{Best}
 use Rattle.image.specs.Fetch.{fetch_of}
 use Rattle.image.specs.declared.fetch.Instruction.{Instruction}
-use Rattle.image.specs.declared.fetch.Fetched.{Fetched}
-use Rattle.image.specs.declared.fetch.Fetched.TheVariants.{Found, Nothing}
 
 pub data Beginning : Type 0 where
   -- with the interrupt of a source
@@ -25,14 +21,14 @@ pub data Beginning : Type 0 where
   Executes : Instruction → Beginning
 
 -- 4/1 where no record begins at PC
-abbrev pub fetch_begins : Fetched → Beginning
-fetch_begins Nothing = Traps CODE
-fetch_begins (Found i) = Executes i
+abbrev pub fetch_begins : Option Instruction → Beginning
+fetch_begins None = Traps CODE
+fetch_begins (Some i) = Executes i
 
 -- 1/4 and 1/5 before it
-abbrev pub check_begins : Check → Fetched → Beginning
-check_begins (Fails t) f = Traps t
-check_begins Passes f = fetch_begins f
+abbrev pub check_begins : Result ⊤ Trap → Option Instruction → Beginning
+check_begins (Err t) f = Traps t
+check_begins (Ok tt) f = fetch_begins f
 
 -- the fetch at an address
 unfoldable pub fetching_at : List ℕ → List ℕ → List Range → ℕ → Beginning

@@ -14,8 +14,6 @@ use Rattle.protection.specs.declared.range.Range.{Range}
 use Rattle.words.specs.Exactly.{Exactly}
 use Rattle.inputs.specs.Checks.{start_verdict}
 use Rattle.inputs.specs.Rules.{StepSays, StartSays}
-use Rattle.inputs.specs.declared.verdict.Verdict.{Verdict}
-use Rattle.inputs.specs.declared.verdict.Verdict.TheVariants as verdict
 use Rattle.decisions.specs.Valid.{Words}
 use Rattle.machine.specs.Step.{verdict_in, StepOf, stepped, step_of}
 use Rattle.machine.specs.Run.{RunOf, ran, run_of, RefusedKeeps}
@@ -29,14 +27,16 @@ use Rattle.records.proofs.Kept.{stored_kept, registers_back}
 use Rattle.answers.specs.Answers.{packed_of, permits_number, outcome_answer, wrong_length, verdict_answer}
 use Rattle.deqbaryn.specs.Host.{is_record, start_answer, StartTells, Called, called, step_stored, run_stored, step_call, StepTells, StepHolds, run_on, run_called, run_call, RunTells, RunHolds, UnmadeKeeps}
 use Rattle.deqbaryn.specs.Calls.{HostFollows, AcceptedFollows}
+use Rattle.std.specs.Prelude.{Err, Ok, Result, ⊤}
+use Rattle.inputs.specs.declared.verdict.Refusal.{Refusal}
 
 -- only a start that is accepted is answered so
-accepted : (v : Verdict) → verdict_answer v ≡ verdict_answer verdict.Accepted → v ≡ verdict.Accepted
+accepted : (v : Result ⊤ Refusal) → verdict_answer v ≡ verdict_answer (Ok tt) → v ≡ (Ok tt)
 unfolding packed_of
-accepted verdict.Accepted e = refl
-accepted (verdict.Refused x) e = absurd (omega arith)
+accepted (Ok tt) e = refl
+accepted (Err x) e = absurd (omega arith)
 
-wrong_differs : wrong_length ≡ verdict_answer verdict.Accepted → ⊥
+wrong_differs : wrong_length ≡ verdict_answer (Ok tt) → ⊥
 unfolding packed_of
 wrong_differs e = omega arith
 
@@ -70,7 +70,7 @@ module _ (bytes : List ℕ) (m : Memory) (img : List ℕ) where
 
   -- ---- a record, with what is read from it
   module _ (l : length bytes ≡ 616) {r : Registers} (reg : r ≡ registers_in bytes) where
-    pub start_right : {v : Verdict} {n : ℕ} → v ≡ start_verdict m img (pc r) (fcx r) (pcxi r) → Exactly (StartSays m img (pc r) (fcx r) (pcxi r)) v → (v ≡ verdict.Accepted → HostFollows (state r m)) → n ≡ verdict_answer v
+    pub start_right : {v : Result ⊤ Refusal} {n : ℕ} → v ≡ start_verdict m img (pc r) (fcx r) (pcxi r) → Exactly (StartSays m img (pc r) (fcx r) (pcxi r)) v → (v ≡ (Ok tt) → HostFollows (state r m)) → n ≡ verdict_answer v
         → (n ≡ start_answer bytes m img) × (StartTells bytes m img n × AcceptedFollows bytes m n)
     start_right {v} said x follows is =
         (rw (eq-eqb (length bytes) 616 l, ← reg) (is ∙ ap verdict_answer said), (λ _. record { answer = v; number = is; exactly = rw (← reg) x }, λ e. rw (← reg) (follows (accepted v (sym is ∙ e)))))

@@ -1,7 +1,6 @@
 -- A series of the host's calls, as demand 3 is about it.
-use Rattle.std.specs.Prelude.{ℕ, ◌≡◌, cond, List, [], ◌∷◌, length}
+use Rattle.std.specs.Prelude.{ℕ, ◌≡◌, cond, List, [], ◌∷◌, length, Ok}
 use Rattle.memory.specs.Memory.{Memory}
-use Rattle.inputs.specs.declared.verdict.Verdict.TheVariants as verdict
 use Rattle.series.specs.Calls.{Image, Kind, step, run, Call, State, state, after_all}
 use Rattle.series.specs.Claim.{Follows}
 use Rattle.records.specs.CoreRecord.{registers_in, requests_in, ranges_of}
@@ -50,4 +49,4 @@ pub record HostFollows (s : State) : Type 0 where
 
 -- from a start that is accepted
 abbrev pub AcceptedFollows : List ℕ → Memory → ℕ → Type 0
-AcceptedFollows bytes m n = n ≡ verdict_answer verdict.Accepted → HostFollows (state (registers_in bytes) m)
+AcceptedFollows bytes m n = n ≡ verdict_answer (Ok tt) → HostFollows (state (registers_in bytes) m)

@@ -1,5 +1,5 @@
 -- The entries of interrupts and traps (002, 5.5 and 6.2), and the FCD entry.
-use Rattle.std.specs.Prelude.{ℕ, ◌*◌, false, cond, List}
+use Rattle.std.specs.Prelude.{ℕ, ◌*◌, false, cond, List, Err, Ok, Result}
 use Rattle.std.specs.Int.Bits.{bit_or}
 use Rattle.memory.specs.Memory.{Memory, memory}
 use Rattle.fields.specs.Psw.{psw_is}
@@ -11,18 +11,15 @@ use Rattle.events.specs.Traps.{FCD}
 use Rattle.events.specs.declared.trap.Trap.{Trap}
 use Rattle.events.specs.declared.event.Event.{Event}
 use Rattle.events.specs.declared.event.Event.TheVariants as event
-use Rattle.events.specs.declared.event.Ending.{Ending}
-use Rattle.events.specs.declared.event.Ending.TheVariants.{Made, Stopped}
 use Rattle.contexts.specs.Context.{upper_of, context_of}
 use Rattle.contexts.specs.Save.{room_of, take_of, save_of}
 use Rattle.contexts.specs.declared.context.Half.{Half}
 use Rattle.contexts.specs.declared.context.Half.TheVariants.{Upper}
-use Rattle.contexts.specs.declared.save.Room.{Room}
-use Rattle.contexts.specs.declared.save.Room.TheVariants as room
-use Rattle.contexts.specs.declared.save.Saved.{Saved}
-use Rattle.contexts.specs.declared.save.Saved.TheVariants as saved
 use Rattle.entries.specs.declared.entry.Cause.{Cause}
 use Rattle.entries.specs.declared.entry.Cause.TheVariants as cause
+use Rattle.events.specs.declared.event.Stop.{Stop}
+use Rattle.contexts.specs.declared.save.Saved.{Saved}
+use Rattle.contexts.specs.declared.save.Saved.TheVariants.{Depleted, Done}
 
 -- A10 = ISP if IS was 0
 unfoldable pub stack_of : ℕ → ℕ → ℕ → ℕ
@@ -48,11 +45,11 @@ interrupt_entry level r =
 
 -- what a step that is accepted comes to, with the registers and the memory after it
 pub record MadeOf : Type 0 where
-  pub ending : Ending
+  pub ending : Result Event Stop
   pub registers : Registers
   pub memory : Memory
 
-abbrev pub made : Ending → Registers → Memory → MadeOf
+abbrev pub made : Result Event Stop → Registers → Memory → MadeOf
 made e r m = record { ending = e; registers = r; memory = m }
 
 -- the registers with other core registers
@@ -60,21 +57,21 @@ abbrev pub with_cores : List ℕ → Registers → Registers
 with_cores core r = registers r.d r.a core
 
 -- the FCD entry works on the state that the step had reached, with the new PC as its return address; it raises no second one. The save before it has looked for its area
-abbrev pub fcd_by : Registers → Memory → Room → MadeOf
-fcd_by r m (room.Stops s) = made (Stopped s) r m
-fcd_by r m (room.At at) =
+abbrev pub fcd_by : Registers → Memory → Result ℕ Stop → MadeOf
+fcd_by r m (Err s) = made (Err s) r m
+fcd_by r m (Ok at) =
     let t = take_of Upper (upper_of r) at r.core m.bytes in
     let q = with_cores t.core r in
-    made (Made (event.Trap FCD)) (trap_entry FCD (pc q) q) (memory m.windows t.bytes)
+    made (Ok (event.Trap FCD)) (trap_entry FCD (pc q) q) (memory m.windows t.bytes)
 
 unfoldable pub fcd_of : Registers → Memory → MadeOf
 fcd_of r m = fcd_by r m (room_of m (link_of (fcx r)))
 
 -- after a save: `then` are the registers from those with the heads set; an FCD entry follows where the area taken is LCX's
-abbrev pub entering : Event → (Registers → Registers) → Registers → Saved → List ℕ → Memory → MadeOf
-entering e then r (saved.Stops s) core m = made (Stopped s) (with_cores core r) m
-entering e then r saved.Done core m = made (Made e) (then (with_cores core r)) m
-entering e then r saved.Depleted core m = fcd_of (then (with_cores core r)) m
+abbrev pub entering : Event → (Registers → Registers) → Registers → Result Saved Stop → List ℕ → Memory → MadeOf
+entering e then r (Err s) core m = made (Err s) (with_cores core r) m
+entering e then r (Ok Done) core m = made (Ok e) (then (with_cores core r)) m
+entering e then r (Ok Depleted) core m = fcd_of (then (with_cores core r)) m
 
 -- a save of a half, with the saved PC of a lower one, then the registers, and the step's event
 abbrev pub saving_of : Event → Half → ℕ → (Registers → Registers) → Registers → Memory → MadeOf

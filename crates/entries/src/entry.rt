@@ -25,20 +25,20 @@ pub fn enter_fcd(
     d: &mut [u32; 16],
     a: &mut [u32; 16],
     core: &mut [u32; CORE],
-) -> Ending
+) -> Result<Event, Stop>
     ensures { made result (registers d.new a.new core.new) (lent base window.new base2 window2.new) ≡ fcd_of (registers d.old a.old core.old) (lent base window.old base2 window2.old) }
 {
     let l = link_of(core[FCX]);
     match find(base, window, base2, window2, l) {
-        Room::Stops(s) => Ending::Stopped(s),
-        Room::At(_) => {
+        Err(s) => Err(s),
+        Ok(_) => {
             let at = spot_of(base, window, base2, window2, l);
             let next = next_link(base, window, base2, window2, l);
             let words = upper(d, a, core);
             take(window, window2, core, at, Half::Upper, words, next);
             let pc = core[PC];
             enter_trap(d, a, core, FCD, pc);
-            Ending::Made(Event::Trap(FCD))
+            Ok(Event::Trap(FCD))
         }
     }
 }
@@ -80,16 +80,16 @@ fn enter(
     a: &mut [u32; 16],
     core: &mut [u32; CORE],
     cause: Cause,
-) -> Ending
+) -> Result<Event, Stop>
     ensures { made result (registers d.new a.new core.new) (lent base window.new base2 window2.new) ≡ enter_of cause (registers d.old a.old core.old) (lent base window.old base2 window2.old) }
 {
     match save_upper(base, window, base2, window2, d, a, core) {
-        Saved::Stops(s) => Ending::Stopped(s),
-        Saved::Done => {
+        Err(s) => Err(s),
+        Ok(Saved::Done) => {
             set_entry(d, a, core, cause);
-            Ending::Made(event_of(cause))
+            Ok(event_of(cause))
         }
-        Saved::Depleted => {
+        Ok(Saved::Depleted) => {
             set_entry(d, a, core, cause);
             enter_fcd(base, window, base2, window2, d, a, core)
         }
@@ -107,7 +107,7 @@ pub fn trap(
     core: &mut [u32; CORE],
     t: Trap,
     back: u32,
-) -> Ending
+) -> Result<Event, Stop>
     ensures { made result (registers d.new a.new core.new) (lent base window.new base2 window2.new) ≡ enter_of (Cause.Trap t back) (registers d.old a.old core.old) (lent base window.old base2 window2.old) }
 {
     enter(
@@ -133,7 +133,7 @@ pub fn interrupt(
     core: &mut [u32; CORE],
     source: u8,
     level: u8,
-) -> Ending
+) -> Result<Event, Stop>
     ensures { made result (registers d.new a.new core.new) (lent base window.new base2 window2.new) ≡ enter_of (Cause.Interrupt source level) (registers d.old a.old core.old) (lent base window.old base2 window2.old) }
 {
     enter(

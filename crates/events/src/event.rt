@@ -40,11 +40,11 @@ pub fn stop_number(s: Stop) -> u32
 }
 
 // The same ending in a variable of the caller's own. A function that is called and not inlined writes its answer through a pointer; what is passed on so stays in a register.
-pub fn passed_on(e: Ending) -> Ending
+pub fn passed_on(e: Result<Event, Stop>) -> Result<Event, Stop>
     ensures { result ≡ e }
 {
     match e {
-        Ending::Made(v) => Ending::Made(v),
-        Ending::Stopped(s) => Ending::Stopped(s),
+        Ok(v) => Ok(v),
+        Err(s) => Err(s),
     }
 }

@@ -21,12 +21,6 @@ use Rattle.contexts.specs.Context.{upper_of, context_of}
 use Rattle.contexts.specs.Save.{room_of, save_of}
 use Rattle.contexts.specs.Restore.{return_of}
 use Rattle.contexts.specs.declared.context.Half.TheVariants.{Upper}
-use Rattle.contexts.specs.declared.save.Room.{Room}
-use Rattle.contexts.specs.declared.save.Room.TheVariants as room
-use Rattle.contexts.specs.declared.save.Saved.{Saved}
-use Rattle.contexts.specs.declared.save.Saved.TheVariants as saved
-use Rattle.contexts.specs.declared.restore.Returned.{Returned}
-use Rattle.contexts.specs.declared.restore.Returned.TheVariants as returned
 use Rattle.entries.specs.Entry.{MadeOf, fcd_by, fcd_of, entering, trap_entry, enter_of}
 use Rattle.entries.specs.declared.entry.Cause.TheVariants as cause
 use Rattle.acts.specs.Acts as acts
@@ -38,6 +32,11 @@ use Rattle.moves.specs.Moves.{integer_of}
 use Rattle.execute.specs.Decision.{act_decides, returning_by, performed_of}
 use Rattle.execute.specs.Execute.{act_by, act_of, finish_of, execute_of}
 use Rattle.execute.specs.Executed.{stays_steady}
+use Rattle.std.specs.Prelude.{Err, Ok, Result, ⊤}
+use Rattle.contexts.specs.declared.save.Saved.{Saved}
+use Rattle.events.specs.declared.event.Stop.{Stop}
+use Rattle.contexts.specs.declared.save.Saved.TheVariants.{Depleted, Done}
+use Rattle.events.specs.declared.event.Stop.TheVariants.{Outside}
 
 pub performs : {o : Operation} {v : Did} (i : Instruction) (r : Registers) (rs : List Range) (m : Memory) → i.op ≡ o → v ≡ perform_of (act_by o i r rs m) r m → v ≡ perform_of (act_of i r rs m) r m
 unfolding act_of
@@ -66,16 +65,16 @@ module _ (next : ℕ) (r : Registers) (m : Memory) where
   unfolding done_of
   done_finish q n = done_by_lem q n (is_same (control_of r.core) (control_of q.core))
 
-  save_is : (then : Registers → Registers) (s : Saved) (core : List ℕ) (n : Memory) → finish_did next (save_did then r s core n) ≡ entering event.Instruction then r s core n
+  save_is : (then : Registers → Registers) (s : Result Saved Stop) (core : List ℕ) (n : Memory) → finish_did next (save_did then r s core n) ≡ entering event.Instruction then r s core n
   unfolding finish_of
-  save_is then (saved.Stops x) core n = refl
-  save_is then saved.Done core n = done_finish _ n
-  save_is then saved.Depleted core n = refl
+  save_is then (Err x) core n = refl
+  save_is then (Ok Done) core n = done_finish _ n
+  save_is then (Ok Depleted) core n = refl
 
-  return_is : (then : Registers → Registers) (s : Returned) (q : Registers) (n : Memory) → finish_did next (return_did then r s q n) ≡ returning_by then s q n
+  return_is : (then : Registers → Registers) (s : Result ⊤ Stop) (q : Registers) (n : Memory) → finish_did next (return_did then r s q n) ≡ returning_by then s q n
   unfolding finish_of
-  return_is then returned.Outside q n = refl
-  return_is then returned.Done q n = done_finish _ n
+  return_is then (Err Outside) q n = refl
+  return_is then (Ok tt) q n = done_finish _ n
 
   act_is : (a : Act) → finish_did next (perform_of a r m) ≡ performed_of (act_decides next r a) r m
   unfolding finish_of enter_of
@@ -107,14 +106,14 @@ module _ (r : Registers) where
       by true e = e
       by false e = e
 
-  save_told : (then : Registers → Registers) (s : Saved) (core : List ℕ) (n : Memory) → ToldDid r (save_did then r s core n)
-  save_told then (saved.Stops x) core n = tt
-  save_told then saved.Done core n = done_told _
-  save_told then saved.Depleted core n = tt
+  save_told : (then : Registers → Registers) (s : Result Saved Stop) (core : List ℕ) (n : Memory) → ToldDid r (save_did then r s core n)
+  save_told then (Err x) core n = tt
+  save_told then (Ok Done) core n = done_told _
+  save_told then (Ok Depleted) core n = tt
 
-  return_told : (then : Registers → Registers) (s : Returned) (q : Registers) (n : Memory) → ToldDid r (return_did then r s q n)
-  return_told then returned.Outside q n = tt
-  return_told then returned.Done q n = done_told _
+  return_told : (then : Registers → Registers) (s : Result ⊤ Stop) (q : Registers) (n : Memory) → ToldDid r (return_did then r s q n)
+  return_told then (Err Outside) q n = tt
+  return_told then (Ok tt) q n = done_told _
 
   act_told : (m : Memory) (a : Act) → ToldDid r (perform_of a r m)
   act_told m (acts.Ends (acts.Sets q)) = done_told q
@@ -132,18 +131,18 @@ module _ (r : Registers) where
   unfolding fcd_of
   fcd_entered q m = by (room_of m (link_of (fcx q)))
     where
-      by : (s : Room) → Entered (fcd_by q m s)
-      by (room.Stops s) = refl
-      by (room.At at) = refl
+      by : (s : Result ℕ Stop) → Entered (fcd_by q m s)
+      by (Err s) = refl
+      by (Ok at) = refl
 
   trap_entered : (t : Trap) (back : ℕ) (q : Registers) (m : Memory) → Entered (enter_of (cause.Trap t back) q m)
   unfolding enter_of
   trap_entered t back q m = let v = save_of Upper (upper_of q) q.core m in by v.saved v.core v.memory
     where
-      by : (s : Saved) (core : List ℕ) (n : Memory) → Entered (entering (event.Trap t) (trap_entry t back) q s core n)
-      by (saved.Stops s) core n = refl
-      by saved.Done core n = refl
-      by saved.Depleted core n = fcd_entered _ n
+      by : (s : Result Saved Stop) (core : List ℕ) (n : Memory) → Entered (entering (event.Trap t) (trap_entry t back) q s core n)
+      by (Err s) core n = refl
+      by (Ok Done) core n = refl
+      by (Ok Depleted) core n = fcd_entered _ n
 
   finish_told : (next : ℕ) (h : How) (q : Registers) (m : Memory) → Told r h q → (h ≡ how.Done → ⊥) → Entered (finish_of next h q m)
   unfolding finish_of

@@ -1,5 +1,5 @@
 -- An instruction: its act, by document 01's operations in order, and the entry that may follow.
-use Rattle.std.specs.Prelude.{ℕ, List}
+use Rattle.std.specs.Prelude.{ℕ, List, Err, Ok}
 use Rattle.memory.specs.Memory.{Memory}
 use Rattle.registers.specs.Registers.{pc, with_pc}
 use Rattle.registers.specs.declared.Registers.{Registers}
@@ -8,7 +8,6 @@ use Rattle.operations.specs.declared.Operation.{Operation}
 use Rattle.operations.specs.declared.Operation.TheVariants.{Nop, Integer, Move, Load, Store, Jump, Context, System}
 use Rattle.image.specs.declared.fetch.Instruction.{Instruction}
 use Rattle.events.specs.declared.event.Event.TheVariants as event
-use Rattle.events.specs.declared.event.Ending.TheVariants.{Made, Stopped}
 use Rattle.entries.specs.Entry.{MadeOf, made, fcd_of, enter_of}
 use Rattle.entries.specs.declared.entry.Cause.TheVariants as cause
 use Rattle.acts.specs.Acts.{Act, Ends, Sets}
@@ -42,9 +41,9 @@ execute_of i r rs m = performed_of (act_decides i.next r (act_of i r rs m)) r m
 
 -- the entry that follows an act, by how it ended: performing the act and then this is executing the instruction (proofs/Arms.antt: act-is)
 unfoldable pub finish_of : ℕ → How → Registers → Memory → MadeOf
-finish_of next how.Done r m = made (Made event.Instruction) r m
-finish_of next how.Switched r m = made (Made event.Instruction) r m
+finish_of next how.Done r m = made (Ok event.Instruction) r m
+finish_of next how.Switched r m = made (Ok event.Instruction) r m
 finish_of next how.Depleted r m = fcd_of r m
 finish_of next (how.Trap t) r m = enter_of (cause.Trap t (pc r)) r m
 finish_of next (how.TrapAfter t) r m = enter_of (cause.Trap t next) r m
-finish_of next (how.Stopped s) r m = made (Stopped s) r m
+finish_of next (how.Stopped s) r m = made (Err s) r m

@@ -34,11 +34,11 @@ pub enum Executed {
 }
 
 // The ending in either case.
-pub fn ending_of(x: Executed) -> Ending
+pub fn ending_of(x: Executed) -> Result<Event, Stop>
     ensures { result ≡ ending_of x }
 {
     match x {
-        Executed::Steady => Ending::Made(Event::Instruction),
+        Executed::Steady => Ok(Event::Instruction),
         Executed::Ended(e) => e,
     }
 }
@@ -99,19 +99,19 @@ fn finish(
     core: &mut [u32; CORE],
     how: How,
     next: u32,
-) -> Ending
+) -> Result<Event, Stop>
     ensures { made result (registers d.new a.new core.new) (lent base window.new base2 window2.new) ≡ finish_of next how (registers d.old a.old core.old) (lent base window.old base2 window2.old) }
 {
     match how {
-        How::Done => Ending::Made(Event::Instruction),
-        How::Switched => Ending::Made(Event::Instruction),
+        How::Done => Ok(Event::Instruction),
+        How::Switched => Ok(Event::Instruction),
         How::Depleted => passed_on(enter_fcd(base, window, base2, window2, d, a, core)),
         How::Trap(t) => {
             let pc = core[PC];
             passed_on(trap(base, window, base2, window2, d, a, core, t, pc))
         }
         How::TrapAfter(t) => passed_on(trap(base, window, base2, window2, d, a, core, t, next)),
-        How::Stopped(s) => Ending::Stopped(s),
+        How::Stopped(s) => Err(s),
     }
 }
 

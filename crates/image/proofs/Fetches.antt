@@ -8,11 +8,11 @@ use Rattle.image.specs.Rest.{rest, rest_of, record_address, Begins}
 use Rattle.image.specs.Rules.{records_before, EntryAt, ImageRight}
 use Rattle.image.specs.Fetch.{instruction_at, fetch_by, fetch_of, FieldsHold, FetchSays}
 use Rattle.image.specs.declared.fetch.Rest.{Rest}
-use Rattle.image.specs.declared.fetch.Fetched.TheVariants.{Found, Nothing}
 use Rattle.image.specs.Marks.{long_only}
 use Rattle.image.proofs.Addresses.{after_join, after_rest}
 use Rattle.image.proofs.Long.{addresses}
 use Rattle.image.proofs.Rests.{Stands, none, some, stands, rest_of_lem}
+use Rattle.std.specs.Prelude.{None, Some}
 
 -- ---- a record that begins somewhere lies in the image, and is one that rule 3 has tried
 module _ (img : List ℕ) (g : ImageRight img) (pc i j : ℕ) (b : Begins img pc i j) where
@@ -81,11 +81,11 @@ module _ (img : List ℕ) (g : ImageRight img) (pc : ℕ) where
 
 -- ---- the fetch is the first of them
 module _ (img : List ℕ) (pc : ℕ) where
-  pub fetch_none : (rest_of img pc).records ≡ 0 → Nothing ≡ fetch_of img pc
+  pub fetch_none : (rest_of img pc).records ≡ 0 → None ≡ fetch_of img pc
   unfolding fetch_of
   fetch_none h = rw (eq-eqb (rest_of img pc).records 0 h)
 
-  pub fetch_first : 0 < (rest_of img pc).records → Found (instruction_at img (rest_of img pc).at pc) ≡ fetch_of img pc
+  pub fetch_first : 0 < (rest_of img pc).records → Some (instruction_at img (rest_of img pc).at pc) ≡ fetch_of img pc
   unfolding fetch_of
   fetch_first h = rw (ne_eqb (rest_of img pc).records 0 (λ e. omega arith))
 
@@ -99,7 +99,7 @@ module _ (img : List ℕ) (pc : ℕ) where
 
 -- the record that is j after pc is fetched at its address
 pub fetch_next : (img : List ℕ) → ImageRight img → (pc j : ℕ) → j < (rest_of img pc).records
-    → fetch_of img (onward img pc j) ≡ Found (instruction_at img ((rest_of img pc).at + 8 * j) (onward img pc j))
+    → fetch_of img (onward img pc j) ≡ Some (instruction_at img ((rest_of img pc).at + 8 * j) (onward img pc j))
 unfolding fetch_of
 fetch_next img g pc j h =
     let n = next img g pc j h in

@@ -5,15 +5,14 @@ use native.Mathlib.Decide.{dec_le}
 use Rattle.image.specs.Table.{entries_of, bodies_of, table_of}
 use Rattle.image.specs.Records.{record_at, records_from, total_of, image_of, ImageHolds}
 use Rattle.image.specs.Rules.{records_before, TableRight, TableFault, TableSays, RecordAt, ImageRight, ImageSays}
-use Rattle.image.specs.declared.table.TableCheck.{TableCheck}
-use Rattle.image.specs.declared.table.TableCheck.TheVariants as table
-use Rattle.image.specs.declared.records.ImageCheck.{ImageCheck}
-use Rattle.image.specs.declared.records.ImageCheck.TheVariants.{Holds, Table, Record}
 use Rattle.words.specs.Exactly.{Exactly}
 use Rattle.words.proofs.Truth.{never}
 use Rattle.words.proofs.Answers.{exactly}
 use Rattle.image.proofs.Tests.{record_right, right_record}
 use Rattle.image.proofs.Tables.{table_says, table_only}
+use Rattle.std.specs.Prelude.{Err, Ok, Result, ⊤}
+use Rattle.image.specs.declared.table.ImageFault.TheVariants.{Record, Table}
+use Rattle.image.specs.declared.table.ImageFault.{ImageFault}
 
 -- ---- sizes
 pub before_le : (img : List ℕ) → TableRight img → (i : ℕ) → i ≤ entries_of img → records_before img i ≤ 65536 * i
@@ -35,7 +34,7 @@ table_size img t =
 
 -- ---- the cases of a turn
 module _ (n : ℕ) (img : List ℕ) (at k : ℕ) where
-  pub records_end : records_from 0 img at k ≡ Holds
+  pub records_end : records_from 0 img at k ≡ (Ok tt)
   unfolding records_from
   records_end = refl
 
@@ -43,7 +42,7 @@ module _ (n : ℕ) (img : List ℕ) (at k : ℕ) where
   unfolding records_from
   records_on t = rw t
 
-  pub records_fault : record_at img at ≡ false → records_from (suc n) img at k ≡ Record k
+  pub records_fault : record_at img at ≡ false → records_from (suc n) img at k ≡ Err (Record k)
   unfolding records_from
   records_fault t = rw t
 
@@ -77,11 +76,11 @@ module _ (img : List ℕ) (g : TableRight img) where
 
 -- ---- the whole image
 module _ (img : List ℕ) where
-  pub image_table : (p : ℕ) → table_of img ≡ table.Fault p → image_of img ≡ Table p
+  pub image_table : (p : ℕ) → table_of img ≡ Err (Err (Table p)) → image_of img ≡ Err (Table p)
   unfolding image_of
   image_table p e = rw e
 
-  pub image_records : table_of img ≡ table.Holds → image_of img ≡ records_from (total_of img) img (bodies_of img) 0
+  pub image_records : table_of img ≡ (Ok tt) → image_of img ≡ records_from (total_of img) img (bodies_of img) 0
   unfolding image_of
   image_records e = rw e
 
@@ -92,24 +91,24 @@ module _ (img : List ℕ) where
       first : bodies_of img + 8 * 0 ≡ bodies_of img
       first = omega arith
 
-      go : (t : TableCheck) → table_of img ≡ t → TableSays img t → ImageSays img (image_of img)
-      go table.Holds e r = rw (image_records e) (rw first at (records_say img r (total_of img) 0 (omega arith) (λ j h. absurd (omega arith))))
-      go (table.Fault p) e r = rw (image_table p e) r
+      go : (t : Result ⊤ ImageFault) → table_of img ≡ t → TableSays img t → ImageSays img (image_of img)
+      go (Ok tt) e r = rw (image_records e) (rw first at (records_say img r (total_of img) 0 (omega arith) (λ j h. absurd (omega arith))))
+      go (Err (Err (Table p))) e r = rw (image_table p e) r
 
   none : {p : ℕ} → TableRight img → TableFault img p → ⊥
-  none {p} r s = let z = table_only img table.Holds (table.Fault p) r s in let q : ◌≡◌ {A = ℕ} 0 1 = cc in omega arith
+  none {p} r s = let z = table_only img (Ok tt) (Err (Err (Table p))) r s in let q : ◌≡◌ {A = ℕ} 0 1 = cc in omega arith
 
   -- and they say nothing else
-  pub image_only : (x y : ImageCheck) → ImageSays img x → ImageSays img y → x ≡ y
-  image_only Holds Holds r s = refl
-  image_only Holds (Table p) r s = absurd (none r.table s)
-  image_only Holds (Record k) r s = absurd (s.fault (r.records k s.inside))
-  image_only (Table p) Holds s r = absurd (none r.table s)
-  image_only (Table p) (Table q) r s = let z = table_only img (table.Fault p) (table.Fault q) r s in let w : p ≡ q = cc in ap Table w
-  image_only (Table p) (Record k) r s = absurd (none s.table r)
-  image_only (Record k) Holds s r = absurd (s.fault (r.records k s.inside))
-  image_only (Record k) (Table p) s r = absurd (none s.table r)
-  image_only (Record k) (Record j) r s = ap Record (go (dec_le k j) (dec_le j k))
+  pub image_only : (x y : Result ⊤ ImageFault) → ImageSays img x → ImageSays img y → x ≡ y
+  image_only (Ok tt) (Ok tt) r s = refl
+  image_only (Ok tt) (Err (Table p)) r s = absurd (none r.table s)
+  image_only (Ok tt) (Err (Record k)) r s = absurd (s.fault (r.records k s.inside))
+  image_only (Err (Table p)) (Ok tt) s r = absurd (none r.table s)
+  image_only (Err (Table p)) (Err (Table q)) r s = let z = table_only img (Err (Err (Table p))) (Err (Err (Table q))) r s in let w : p ≡ q = cc in ap Err (Table w)
+  image_only (Err (Table p)) (Err (Record k)) r s = absurd (none s.table r)
+  image_only (Err (Record k)) (Ok tt) s r = absurd (s.fault (r.records k s.inside))
+  image_only (Err (Record k)) (Err (Table p)) s r = absurd (none s.table r)
+  image_only (Err (Record k)) (Err (Record j)) r s = ap Err (Record (go (dec_le k j) (dec_le j k)))
     where
       go : Dec (k ≤ j) → Dec (j ≤ k) → k ≡ j
       go (yes p) (yes q) = omega arith
@@ -117,7 +116,7 @@ module _ (img : List ℕ) where
       go (yes p) (no q) = absurd (r.fault (s.before k (lt_of_not-le q)))
 
   -- so it is given exactly where they say it
-  pub image_exactly : (r : ImageCheck) → r ≡ image_of img → (r ≡ image_of img) × Exactly (ImageSays img) r
+  pub image_exactly : (r : Result ⊤ ImageFault) → r ≡ image_of img → (r ≡ image_of img) × Exactly (ImageSays img) r
   image_exactly = exactly (ImageSays img) (image_of img) image_says (λ x p. image_only x (image_of img) p image_says)
 
   pub image_right : ImageHolds img → ImageRight img
@@ -128,15 +127,15 @@ module _ (img : List ℕ) (at k : ℕ) (is : at ≡ bodies_of img + 8 * k) where
   pub turn_on : k < total_of img → record_at img at ≡ true → records_from (total_of img - (k + 1)) img (at + 8) (k + 1) ≡ records_from (total_of img - k) img at k
   turn_on h t = let j : total_of img - k ≡ suc (total_of img - (k + 1)) = omega arith in rw j (sym (records_on (total_of img - (k + 1)) img at k t))
 
-  pub turn_fault : k < total_of img → record_at img at ≡ false → Record k ≡ records_from (total_of img - k) img at k
+  pub turn_fault : k < total_of img → record_at img at ≡ false → Err (Record k) ≡ records_from (total_of img - k) img at k
   turn_fault h t = let j : total_of img - k ≡ suc (total_of img - (k + 1)) = omega arith in rw j (sym (records_fault (total_of img - (k + 1)) img at k t))
 
-  pub turn_end : total_of img ≤ k → Holds ≡ records_from (total_of img - k) img at k
+  pub turn_end : total_of img ≤ k → (Ok tt) ≡ records_from (total_of img - k) img at k
   turn_end h = let j : total_of img - k ≡ 0 = omega arith in rw j (sym (records_end 0 img at k))
 
 -- ---- where a table holds
-pub right_of : (img : List ℕ) → table_of img ≡ table.Holds → TableRight img
+pub right_of : (img : List ℕ) → table_of img ≡ (Ok tt) → TableRight img
 right_of img e = subst (TableSays img) e (table_says img)
 
-pub sized : (img : List ℕ) → table_of img ≡ table.Holds → Sized img
+pub sized : (img : List ℕ) → table_of img ≡ (Ok tt) → Sized img
 sized img e = table_size img (right_of img e)

@@ -10,23 +10,24 @@ use Rattle.operations.specs.Forms.{is_short, operation_number}
 use Rattle.image.specs.Table.{bodies_of}
 use Rattle.image.specs.Records.{record_holds, record_at, records_from, all_hold, total_of}
 use Rattle.image.specs.Marks.{long_from, long_only}
-use Rattle.image.specs.declared.records.ImageCheck.{ImageCheck}
-use Rattle.image.specs.declared.records.ImageCheck.TheVariants.{Holds, Table, Record}
 use Rattle.image.proofs.Tests.{word_form, word_record, word_short}
 use Rattle.image.proofs.Images.{Sized, turn_on, turn_fault, turn_end}
 use Rattle.image.proofs.Long.{and_one, pass_first, pass_on, pass_end}
+use Rattle.std.specs.Prelude.{Err, Ok, Result, ⊤}
+use Rattle.image.specs.declared.table.ImageFault.{ImageFault}
+use Rattle.image.specs.declared.table.ImageFault.TheVariants.{Record, Table}
 
 -- ---- whether they all hold
-pub held_is : (c : ImageCheck) → all_hold c ≡ true → c ≡ Holds
-held_is Holds e = refl
-held_is (Table p) e = absurd (never (sym e))
-held_is (Record k) e = absurd (never (sym e))
+pub held_is : (c : Result ⊤ ImageFault) → all_hold c ≡ true → c ≡ (Ok tt)
+held_is (Ok tt) e = refl
+held_is (Err (Table p)) e = absurd (never (sym e))
+held_is (Err (Record k)) e = absurd (never (sym e))
 
 held_more : (n : ℕ) (img : List ℕ) (at k : ℕ) → all_hold (records_from (suc n) img at k) ≡ (record_at img at && all_hold (records_from n img (at + 8) (k + 1)))
 unfolding records_from
 held_more n img at k = by (record_at img at)
   where
-    by : (b : Bool) → all_hold (cond b (records_from n img (at + 8) (k + 1)) (Record k)) ≡ (b && all_hold (records_from n img (at + 8) (k + 1)))
+    by : (b : Bool) → all_hold (cond b (records_from n img (at + 8) (k + 1)) (Err (Record k))) ≡ (b && all_hold (records_from n img (at + 8) (k + 1)))
     by true = refl
     by false = refl
 
@@ -70,12 +71,12 @@ module _ (img : List ℕ) (s : Sized img) where
     inside : at < length img → c.index < total_of img
     inside h = let l = s.length_is in omega (arith, c.at_is)
 
-    pub scanned_end : length img ≤ at → (Holds ≡ records_from (total_of img) img (bodies_of img) 0) × (long ≡ long_only img)
+    pub scanned_end : length img ≤ at → ((Ok tt) ≡ records_from (total_of img) img (bodies_of img) 0) × (long ≡ long_only img)
     scanned_end h =
         let k : total_of img ≤ c.index = (let l = s.length_is in omega (arith, c.at_is)) in
         (turn_end img at c.index c.at_is k ∙ c.check, sym (pass_end img long c.index k) ∙ c.long_is)
 
-    pub scanned_fault : at < length img → record_at img at ≡ false → (from : ℕ) → from ≡ bodies_of img → Record ((at - from) / 8) ≡ records_from (total_of img) img (bodies_of img) 0
+    pub scanned_fault : at < length img → record_at img at ≡ false → (from : ℕ) → from ≡ bodies_of img → Err (Record ((at - from) / 8)) ≡ records_from (total_of img) img (bodies_of img) 0
     scanned_fault h t from e =
         let q : (at - from) / 8 ≡ c.index = omega (arith, c.at_is) in
         rw q (turn_fault img at c.index c.at_is (inside h) t ∙ c.check)

@@ -5,20 +5,21 @@ use native.Mathlib.Decide.{dec_le, ℕ_discrete}
 use Rattle.image.specs.Table.{entries_of, entry_at, bodies_of, range_end, entry_holds, entries_from, table_of}
 use Rattle.image.specs.Rules.{start_of, floor_of, EntryAt, Counted, TableRight, TableFault, uncounted, at_entry, left_over, TableSays}
 use Rattle.image.specs.declared.table.Entry.{Entry}
-use Rattle.image.specs.declared.table.TableCheck.{TableCheck}
-use Rattle.image.specs.declared.table.TableCheck.TheVariants.{Holds, Fault}
 use Rattle.words.specs.Exactly.{Exactly}
 use Rattle.words.proofs.Truth.{never, either_false}
 use Rattle.words.proofs.Answers.{exactly}
 use Rattle.image.proofs.Tests.{entry_right, right_entry}
+use Rattle.std.specs.Prelude.{Err, Ok, Result, ⊤}
+use Rattle.image.specs.declared.table.ImageFault.TheVariants.{Table}
+use Rattle.image.specs.declared.table.ImageFault.{ImageFault}
 
 -- ---- the cases of a turn
 module _ (k : ℕ) (img : List ℕ) (i start floor : ℕ) where
-  pub entries_end : start ≡ length img → entries_from 0 img i start floor ≡ Holds
+  pub entries_end : start ≡ length img → entries_from 0 img i start floor ≡ (Ok tt)
   unfolding entries_from
   entries_end e = rw (eq-eqb start (length img) e)
 
-  pub entries_over : (start ≡ length img → ⊥) → entries_from 0 img i start floor ≡ Fault i
+  pub entries_over : (start ≡ length img → ⊥) → entries_from 0 img i start floor ≡ Err (Table i)
   unfolding entries_from
   entries_over d = rw (ne_eqb start (length img) d)
 
@@ -27,7 +28,7 @@ module _ (k : ℕ) (img : List ℕ) (i start floor : ℕ) where
   unfolding entries_from
   entries_on t = rw t
 
-  pub entries_fault : entry_holds img (entry_at img i) start floor ≡ false → entries_from (suc k) img i start floor ≡ Fault (i + 1)
+  pub entries_fault : entry_holds img (entry_at img i) start floor ≡ false → entries_from (suc k) img i start floor ≡ Err (Table (i + 1))
   unfolding entries_from
   entries_fault t = rw t
 
@@ -37,14 +38,14 @@ module _ (n : ℕ) (img : List ℕ) (i start floor : ℕ) (e : Entry) (is : e �
       → entries_from (n - (i + 1)) img (i + 1) (start + 8 * e.records) (range_end img e) ≡ entries_from (n - i) img i start floor
   turn_on h t = let j : n - i ≡ suc (n - (i + 1)) = omega arith in rw (j, is) (sym (entries_on (n - (i + 1)) img i start floor (rw is at t)))
 
-  pub turn_fault : i < n → entry_holds img e start floor ≡ false → Fault (i + 1) ≡ entries_from (n - i) img i start floor
+  pub turn_fault : i < n → entry_holds img e start floor ≡ false → Err (Table (i + 1)) ≡ entries_from (n - i) img i start floor
   turn_fault h t = let j : n - i ≡ suc (n - (i + 1)) = omega arith in rw j (sym (entries_fault (n - (i + 1)) img i start floor (rw is at t)))
 
 module _ (n : ℕ) (img : List ℕ) (i start floor : ℕ) (h : i ≤ n) (k : n ≤ i) where
-  pub turn_end : start ≡ length img → Holds ≡ entries_from (n - i) img i start floor
+  pub turn_end : start ≡ length img → (Ok tt) ≡ entries_from (n - i) img i start floor
   turn_end e = let j : n - i ≡ 0 = omega arith in rw j (sym (entries_end 0 img i start floor e))
 
-  pub turn_over : (start ≡ length img → ⊥) → Fault n ≡ entries_from (n - i) img i start floor
+  pub turn_over : (start ≡ length img → ⊥) → Err (Table n) ≡ entries_from (n - i) img i start floor
   turn_over d = let j : n - i ≡ 0 = omega arith in let q : n ≡ i = omega arith in rw (j, q) (sym (entries_over 0 img i start floor d))
 
 -- ---- what the entries from place i on say, those before being right
@@ -110,7 +111,7 @@ module _ (img : List ℕ) where
   unfolding table_of bad
   table_counted g = rw (of_counted g)
 
-  table_uncounted : bad ≡ true → table_of img ≡ Fault 0
+  table_uncounted : bad ≡ true → table_of img ≡ Err (Table 0)
   unfolding table_of bad
   table_uncounted h = rw h
 
@@ -134,11 +135,11 @@ module _ (img : List ℕ) where
   clash r (left_over g b d e) = d r.ends
 
   -- and it says nothing else
-  pub table_only : (x y : TableCheck) → TableSays img x → TableSays img y → x ≡ y
-  table_only Holds Holds r s = refl
-  table_only Holds (Fault p) r s = absurd (clash r s)
-  table_only (Fault p) Holds s r = absurd (clash r s)
-  table_only (Fault p) (Fault q) r s = ap Fault (same r s)
+  pub table_only : (x y : Result ⊤ ImageFault) → TableSays img x → TableSays img y → x ≡ y
+  table_only (Ok tt) (Ok tt) r s = refl
+  table_only (Ok tt) (Err (Table p)) r s = absurd (clash r s)
+  table_only (Err (Table p)) (Ok tt) s r = absurd (clash r s)
+  table_only (Err (Table p)) (Err (Table q)) r s = ap Err (Table (same r s))
     where
       ordered : (i j : ℕ) → ((x : ℕ) → x < i → EntryAt img x) → (EntryAt img j → ⊥) → i ≤ j
       ordered i j b d = go (dec_le i j)
@@ -159,5 +160,5 @@ module _ (img : List ℕ) where
       same (left_over g b d e) (left_over g' b' d' e') = e ∙ sym e'
 
   -- so it is given exactly where rule 2 says it
-  pub table_exactly : (r : TableCheck) → r ≡ table_of img → (r ≡ table_of img) × Exactly (TableSays img) r
+  pub table_exactly : (r : Result ⊤ ImageFault) → r ≡ table_of img → (r ≡ table_of img) × Exactly (TableSays img) r
   table_exactly = exactly (TableSays img) (table_of img) table_says (λ x p. table_only x (table_of img) p table_says)

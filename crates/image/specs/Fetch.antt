@@ -1,5 +1,5 @@
 -- The record that begins at a PC.
-use Rattle.std.specs.Prelude.{◌≡◌, ℕ, ◌+◌, ◌*◌, ◌%◌, ◌^◌, ◌<◌, ◌≤◌, true, cond, List, ◌==◌, slice_index}
+use Rattle.std.specs.Prelude.{◌≡◌, ℕ, ◌+◌, ◌*◌, ◌%◌, ◌^◌, ◌<◌, ◌≤◌, true, cond, List, ◌==◌, slice_index, None, Option, Some}
 use Rattle.memory.specs.Word.{word_at}
 use Rattle.operations.specs.Operations.{operation_of, compares}
 use Rattle.operations.specs.Forms.{operation_number}
@@ -8,8 +8,6 @@ use Rattle.image.specs.Table.{entry_at}
 use Rattle.image.specs.Rest.{rest_of, Begins}
 use Rattle.image.specs.declared.fetch.Instruction.{Instruction}
 use Rattle.image.specs.declared.fetch.Rest.{Rest}
-use Rattle.image.specs.declared.fetch.Fetched.{Fetched}
-use Rattle.image.specs.declared.fetch.Fetched.TheVariants.{Found, Nothing}
 
 -- the address after the record at byte `at`, which begins at pc: its own length on
 abbrev pub next_after : List ℕ → ℕ → ℕ → ℕ
@@ -28,21 +26,21 @@ instruction_at img at pc =
     }
 
 -- the first of the records from pc on, if there is one
-abbrev pub fetch_by : List ℕ → ℕ → Rest → Fetched
-fetch_by img pc r = cond (r.records == 0) Nothing (Found (instruction_at img r.at pc))
+abbrev pub fetch_by : List ℕ → ℕ → Rest → Option Instruction
+fetch_by img pc r = cond (r.records == 0) None (Some (instruction_at img r.at pc))
 
-unfoldable pub fetch_of : List ℕ → ℕ → Fetched
+unfoldable pub fetch_of : List ℕ → ℕ → Option Instruction
 fetch_of img pc = fetch_by img pc (rest_of img pc)
 
 -- a record's fields are in their bounds: what rule 3 says of them
 abbrev pub FieldsHold : Instruction → Type 0
 FieldsHold i = (i.c < 16) × (i.a < 16) × (i.b ≤ 16) × (compares i.op ≡ true → i.b < 16)
 
-abbrev pub Bounded : Fetched → Type 0
-Bounded (Found i) = FieldsHold i
-Bounded Nothing = Unit {0}
+abbrev pub Bounded : Option Instruction → Type 0
+Bounded (Some i) = FieldsHold i
+Bounded None = Unit {0}
 
 -- what is fetched is the record that begins at pc, and nothing is where none does
-abbrev pub FetchSays : List ℕ → ℕ → Fetched → Type 0
-FetchSays img pc (Found r) = (i : ℕ) × (j : ℕ) × Begins img pc i j × (r ≡ instruction_at img ((entry_at img i).offset + 8 * j) pc)
-FetchSays img pc Nothing = (i j : ℕ) → Begins img pc i j → ⊥
+abbrev pub FetchSays : List ℕ → ℕ → Option Instruction → Type 0
+FetchSays img pc (Some r) = (i : ℕ) × (j : ℕ) × Begins img pc i j × (r ≡ instruction_at img ((entry_at img i).offset + 8 * j) pc)
+FetchSays img pc None = (i j : ℕ) → Begins img pc i j → ⊥

@@ -1,12 +1,10 @@
 -- The records: 8 bytes each.
-use Rattle.std.specs.Prelude.{◌≡◌, ℕ, zero, suc, ◌+◌, ◌-◌, ◌/◌, Bool, true, false, cond, not, ◌&&◌, ◌||◌, List, length, nat_le, nat_lt, slice_index}
+use Rattle.std.specs.Prelude.{◌≡◌, ℕ, zero, suc, ◌+◌, ◌-◌, ◌/◌, Bool, true, false, cond, not, ◌&&◌, ◌||◌, List, length, nat_le, nat_lt, slice_index, Err, Ok, Result, ⊤}
 use Rattle.operations.specs.Operations.{operations, operation_of, compares}
 use Rattle.operations.specs.Forms.{operation_number}
 use Rattle.image.specs.Table.{bodies_of, table_of}
-use Rattle.image.specs.declared.table.TableCheck.{TableCheck}
-use Rattle.image.specs.declared.table.TableCheck.TheVariants as table
-use Rattle.image.specs.declared.records.ImageCheck.{ImageCheck}
-use Rattle.image.specs.declared.records.ImageCheck.TheVariants.{Holds, Table, Record}
+use Rattle.image.specs.declared.table.ImageFault.{ImageFault}
+use Rattle.image.specs.declared.table.ImageFault.TheVariants.{Record, Table}
 
 -- the operation is one of the table, c and a are 0 to 15, b is 0 to 16; JEQ to JGE.U refuse 16
 unfoldable pub record_holds : ℕ → ℕ → ℕ → ℕ → Bool
@@ -18,28 +16,28 @@ abbrev pub record_at : List ℕ → ℕ → Bool
 record_at img at = record_holds (operation_number (slice_index img at)) (slice_index img (at + 1)) (slice_index img (at + 2)) (slice_index img (at + 3))
 
 -- n records from the one with index k on, which stands at byte `at`
-unfoldable pub records_from : ℕ → List ℕ → ℕ → ℕ → ImageCheck
-records_from zero img at k = Holds
-records_from (suc n) img at k = cond (record_at img at) (records_from n img (at + 8) (k + 1)) (Record k)
+unfoldable pub records_from : ℕ → List ℕ → ℕ → ℕ → Result ⊤ ImageFault
+records_from zero img at k = Ok tt
+records_from (suc n) img at k = cond (record_at img at) (records_from n img (at + 8) (k + 1)) (Err (Record k))
 
 -- whether every record holds
-abbrev pub all_hold : ImageCheck → Bool
-all_hold Holds = true
-all_hold (Table p) = false
-all_hold (Record k) = false
+abbrev pub all_hold : Result ⊤ ImageFault → Bool
+all_hold (Ok tt) = true
+all_hold (Err (Table p)) = false
+all_hold (Err (Record k)) = false
 
 -- how many records the bodies have: they fill the image after the table
 abbrev pub total_of : List ℕ → ℕ
 total_of img = (length img - bodies_of img) / 8
 
-abbrev pub image_by : List ℕ → TableCheck → ImageCheck
-image_by img (table.Fault p) = Table p
-image_by img table.Holds = records_from (total_of img) img (bodies_of img) 0
+abbrev pub image_by : List ℕ → Result ⊤ ImageFault → Result ⊤ ImageFault
+image_by img (Err (Err (Table p))) = Err (Table p)
+image_by img (Ok tt) = records_from (total_of img) img (bodies_of img) 0
 
 -- rule 2, then rule 3
-unfoldable pub image_of : List ℕ → ImageCheck
+unfoldable pub image_of : List ℕ → Result ⊤ ImageFault
 image_of img = image_by img (table_of img)
 
 -- rules 2 and 3 hold
 abbrev pub ImageHolds : List ℕ → Type 0
-ImageHolds img = image_of img ≡ Holds
+ImageHolds img = image_of img ≡ (Ok tt)

@@ -1,14 +1,12 @@
 -- Rules 2 and 3 as plain statements. The checks answer exactly these.
-use Rattle.std.specs.Prelude.{◌≡◌, ℕ, zero, suc, ◌+◌, ◌*◌, ◌%◌, ◌<◌, ◌≤◌, true, List, length, ◌≢◌, slice_index}
+use Rattle.std.specs.Prelude.{◌≡◌, ℕ, zero, suc, ◌+◌, ◌*◌, ◌%◌, ◌<◌, ◌≤◌, true, List, length, ◌≢◌, slice_index, Err, Ok, Result, ⊤}
 use Rattle.operations.specs.Operations.{operations, operation_of, compares}
 use Rattle.operations.specs.Forms.{operation_number}
 use Rattle.image.specs.Table.{entries_of, entry_at, bodies_of, range_end}
 use Rattle.image.specs.Records.{total_of}
 use Rattle.image.specs.declared.table.Entry.{Entry}
-use Rattle.image.specs.declared.table.TableCheck.{TableCheck}
-use Rattle.image.specs.declared.table.TableCheck.TheVariants as table
-use Rattle.image.specs.declared.records.ImageCheck.{ImageCheck}
-use Rattle.image.specs.declared.records.ImageCheck.TheVariants as image
+use Rattle.image.specs.declared.table.ImageFault.{ImageFault}
+use Rattle.image.specs.declared.table.ImageFault.TheVariants.{Record, Table}
 
 -- how many records the bodies before entry i have; entries are counted from place 0 here
 abbrev pub records_before : List ℕ → ℕ → ℕ
@@ -56,9 +54,9 @@ pub data TableFault (img : List ℕ) : ℕ → Type 0 where
   at_entry : {p : ℕ} → Counted img → (i : ℕ) → i < entries_of img → ((j : ℕ) → j < i → EntryAt img j) → (EntryAt img i → ⊥) → p ≡ i + 1 → TableFault img p
   left_over : {p : ℕ} → Counted img → ((j : ℕ) → j < entries_of img → EntryAt img j) → (start_of img (entries_of img) ≢ length img) → p ≡ entries_of img → TableFault img p
 
-abbrev pub TableSays : List ℕ → TableCheck → Type 0
-TableSays img table.Holds = TableRight img
-TableSays img (table.Fault p) = TableFault img p
+abbrev pub TableSays : List ℕ → Result ⊤ ImageFault → Type 0
+TableSays img (Ok tt) = TableRight img
+TableSays img (Err (Table p)) = TableFault img p
 
 -- a record's operation by its number, and its other bytes, are in their bounds; the operations that compare two registers refuse b = 16
 pub record RecordRight (op c a b : ℕ) : Type 0 where
@@ -86,7 +84,7 @@ pub record RecordFault (img : List ℕ) (k : ℕ) : Type 0 where
   pub before : (j : ℕ) → j < k → RecordAt img j
   pub fault : RecordAt img k → ⊥
 
-abbrev pub ImageSays : List ℕ → ImageCheck → Type 0
-ImageSays img image.Holds = ImageRight img
-ImageSays img (image.Table p) = TableFault img p
-ImageSays img (image.Record k) = RecordFault img k
+abbrev pub ImageSays : List ℕ → Result ⊤ ImageFault → Type 0
+ImageSays img (Ok tt) = ImageRight img
+ImageSays img (Err (Table p)) = TableFault img p
+ImageSays img (Err (Record k)) = RecordFault img k

@@ -1,10 +1,10 @@
 -- The table of contents: word n, then n entries of load address, records, and offset from the image's start.
-use Rattle.std.specs.Prelude.{ℕ, zero, suc, ◌+◌, ◌*◌, ◌%◌, Bool, cond, ◌&&◌, ◌||◌, List, length, ◌==◌, nat_le, nat_lt}
+use Rattle.std.specs.Prelude.{ℕ, zero, suc, ◌+◌, ◌*◌, ◌%◌, Bool, cond, ◌&&◌, ◌||◌, List, length, ◌==◌, nat_le, nat_lt, Err, Ok, Result, ⊤}
 use Rattle.memory.specs.Word.{word_at}
 use Rattle.image.specs.Lengths.{address_after}
 use Rattle.image.specs.declared.table.Entry.{Entry}
-use Rattle.image.specs.declared.table.TableCheck.{TableCheck}
-use Rattle.image.specs.declared.table.TableCheck.TheVariants.{Holds, Fault}
+use Rattle.image.specs.declared.table.ImageFault.{ImageFault}
+use Rattle.image.specs.declared.table.ImageFault.TheVariants.{Table}
 
 abbrev pub entries_of : List ℕ → ℕ
 entries_of img = word_at img 0
@@ -37,15 +37,15 @@ abbrev pub entry_holds : List ℕ → Entry → ℕ → ℕ → Bool
 entry_holds img e start floor = entry_fits e start (length img) && nat_le floor e.load && nat_le (range_end img e) 0xE000_0000
 
 -- k entries from place i on. Bodies follow without gaps in table order, code ranges ascend, and the last body ends the image
-unfoldable pub entries_from : ℕ → List ℕ → ℕ → ℕ → ℕ → TableCheck
-entries_from zero img i start floor = cond (start == length img) Holds (Fault i)
+unfoldable pub entries_from : ℕ → List ℕ → ℕ → ℕ → ℕ → Result ⊤ ImageFault
+entries_from zero img i start floor = cond (start == length img) (Ok tt) (Err (Table i))
 entries_from (suc k) img i start floor =
     cond (entry_holds img (entry_at img i) start floor)
     (entries_from k img (i + 1) (start + 8 * (entry_at img i).records) (range_end img (entry_at img i)))
-    (Fault (i + 1))
+    (Err (Table (i + 1)))
 
 -- rule 2: 1 to 16 entries, a table that is not cut short, then the entries
-unfoldable pub table_of : List ℕ → TableCheck
+unfoldable pub table_of : List ℕ → Result ⊤ ImageFault
 table_of img =
-    cond (nat_lt (length img) 4 || nat_lt (entries_of img) 1 || nat_lt 16 (entries_of img) || nat_lt (length img) (bodies_of img)) (Fault 0)
+    cond (nat_lt (length img) 4 || nat_lt (entries_of img) 1 || nat_lt 16 (entries_of img) || nat_lt (length img) (bodies_of img)) (Err (Table 0))
     (entries_from (entries_of img) img 0 (bodies_of img) 0)

@@ -221,7 +221,7 @@ pub fn rest_at(image: &[u8], marks: &[u64], shift: u32, pc: u32) -> InBody
 }
 
 // The record that begins at pc, of an image that rules 2 and 3 accept.
-pub fn fetch(image: &[u8], pc: u32) -> Fetched
+pub fn fetch(image: &[u8], pc: u32) -> Option<Instruction>
     requires { ImageHolds image.now }
     ensures { (result ≡ fetch_of image.now pc) × Bounded result × FetchSays image.now pc result }
 {
@@ -229,8 +229,8 @@ pub fn fetch(image: &[u8], pc: u32) -> Fetched
     let found = rest_at(image, &none, 0, pc);
     let rest = found.rest;
     if rest.records == 0 {
-        return Fetched::Nothing;
+        return None;
     }
     let at = rest.at;
-    Fetched::Found(read_record(image, at, next_after(image, at, pc)))
+    Some(read_record(image, at, next_after(image, at, pc)))
 }

@@ -85,7 +85,7 @@ fn scan_all(image: &[u8]) -> Scan
 // The rules' answer, and whether the image has no short form.
 #[derive(Clone, Copy)]
 pub struct ImageScan {
-    pub check: ImageCheck,
+    pub check: Result<(), ImageFault>,
     pub long: bool,
 }
 
@@ -102,7 +102,7 @@ fn scan_each(image: &[u8]) -> ImageScan
         let w = word_at(image, at);
         if !word_fits(w) {
             return ImageScan {
-                check: ImageCheck::Record(((at - from) / 8) as u32),
+                check: Err(ImageFault::Record(((at - from) / 8) as u32)),
                 long: false,
             };
         }
@@ -110,7 +110,7 @@ fn scan_each(image: &[u8]) -> ImageScan
         at += 8;
     }
     ImageScan {
-        check: ImageCheck::Holds,
+        check: Ok(()),
         long: short == 0,
     }
 }
@@ -126,7 +126,7 @@ fn scan_records(image: &[u8]) -> ImageScan
     let s = scan_all(image);
     if s.hold {
         return ImageScan {
-            check: ImageCheck::Holds,
+            check: Ok(()),
             long: s.long,
         };
     }
@@ -138,15 +138,15 @@ pub fn scan_image(image: &[u8]) -> ImageScan
     ensures { (result.check ≡ image_of image.now) × Exactly (ImageSays image.now) result.check × (result.long ≡ long_in image.now result.check) }
 {
     match check_table(image) {
-        TableCheck::Fault(p) => ImageScan {
-            check: ImageCheck::Table(p),
+        Err(ImageFault::Table(p)) => ImageScan {
+            check: Err(ImageFault::Table(p)),
             long: false,
         },
-        TableCheck::Holds => scan_records(image),
+        Ok(()) => scan_records(image),
     }
 }
 
-pub fn check_image(image: &[u8]) -> ImageCheck
+pub fn check_image(image: &[u8]) -> Result<(), ImageFault>
     ensures { (result ≡ image_of image.now) × Exactly (ImageSays image.now) result }
 {
     scan_image(image).check

@@ -66,28 +66,28 @@ fn ends_by(image: &[u8], e: Entry, limit: u64) -> bool
 }
 
 // The table of contents.
-pub fn check_table(image: &[u8]) -> TableCheck
+pub fn check_table(image: &[u8]) -> Result<(), ImageFault>
     ensures { (result ≡ table_of image.now) × Exactly (TableSays image.now) result }
 {
     let len = image.len();
     if len < 4 {
-        return TableCheck::Fault(0);
+        return Err(ImageFault::Table(0));
     }
     let n = word_at(image, 0);
     if n < 1 {
-        return TableCheck::Fault(0);
+        return Err(ImageFault::Table(0));
     }
     if 16 < n {
-        return TableCheck::Fault(0);
+        return Err(ImageFault::Table(0));
     }
     if len < 4 + 12 * n as usize {
-        return TableCheck::Fault(0);
+        return Err(ImageFault::Table(0));
     }
     check_entries(image, n)
 }
 
 // The n entries, in order, and that the last body ends the image. Before the first one no code range ends anywhere.
-fn check_entries(image: &[u8], n: u32) -> TableCheck
+fn check_entries(image: &[u8], n: u32) -> Result<(), ImageFault>
     requires { (n ≤ 16) × (4 + 12 * n ≤ length image.now) }
     ensures { result ≡ entries_from n image.now 0 (4 + 12 * n) 0 }
 {
@@ -102,20 +102,20 @@ fn check_entries(image: &[u8], n: u32) -> TableCheck
     while i < n {
         let e = read_entry(image, i as usize);
         if !entry_fits(e, start, len) {
-            return TableCheck::Fault(i + 1);
+            return Err(ImageFault::Table(i + 1));
         }
         if !ends_by(image, last, e.load as u64) {
-            return TableCheck::Fault(i + 1);
+            return Err(ImageFault::Table(i + 1));
         }
         if !ends_by(image, e, 0xE000_0000) {
-            return TableCheck::Fault(i + 1);
+            return Err(ImageFault::Table(i + 1));
         }
         start += 8 * e.records as u64;
         last = e;
         i += 1;
     }
     if start == len {
-        return TableCheck::Holds;
+        return Ok(());
     }
-    TableCheck::Fault(n)
+    Err(ImageFault::Table(n))
 }

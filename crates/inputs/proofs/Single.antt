@@ -10,20 +10,18 @@ use Rattle.words.proofs.Answers.{exactly}
 use Rattle.memory.specs.Memory.{Memory}
 use Rattle.lists.specs.Walk.{lists_of}
 use Rattle.lists.specs.Lists.{ListsCome}
-use Rattle.lists.specs.declared.ListEnd.{ListEnd}
-use Rattle.lists.specs.declared.ListEnd.TheVariants as list
 use Rattle.lists.proofs.Lists.{lists_come, lists_only, sound_of, of_sound}
 use Rattle.image.specs.Records.{image_of}
 use Rattle.image.specs.Rules.{ImageSays}
-use Rattle.image.specs.declared.records.ImageCheck.{ImageCheck}
-use Rattle.image.specs.declared.records.ImageCheck.TheVariants as image
 use Rattle.image.proofs.Images.{image_says, image_only}
 use Rattle.inputs.specs.Checks.{window_verdict, image_said, image_verdict, pc_verdict, lists_said, lists_verdict}
 use Rattle.inputs.specs.Rules.{WindowsHold, WindowsSay, ContentsSay, Even, PcSays, ListsSay}
-use Rattle.inputs.specs.declared.verdict.Verdict.{Verdict}
-use Rattle.inputs.specs.declared.verdict.Verdict.TheVariants.{Accepted, Refused}
 use Rattle.inputs.specs.declared.verdict.Refusal.TheVariants.{Window, Overlap, Table, Record, OddPc, LinkOutside, MetAgain}
 use Rattle.inputs.proofs.Windows.{wrong, overlap, hold, windows_wrong, windows_overlap, windows_hold, ComeOf, come_of, windows_small}
+use Rattle.std.specs.Prelude.{Err, Ok, Result, ⊤}
+use Rattle.inputs.specs.declared.verdict.Refusal.{Refusal}
+use Rattle.image.specs.declared.table.ImageFault.{ImageFault}
+use Rattle.lists.specs.declared.ListFault.{ListFault}
 
 -- ---- rules 1 and 13
 module _ (m : Memory) where
@@ -35,40 +33,40 @@ module _ (m : Memory) where
       by (overlap e r d) = rw e (r, d)
       by (hold e r a) = rw e (record { right = r; apart = a })
 
-  pub windows_is : (v : Verdict) → WindowsSay m v → v ≡ window_verdict m
-  windows_is Accepted w = sym (windows_hold _ _ _ _ w.right w.apart)
-  windows_is (Refused Window) d = sym (windows_wrong _ _ _ _ d)
-  windows_is (Refused Overlap) (r, d) = sym (windows_overlap _ _ _ _ r d)
-  windows_is (Refused (Table entry)) s = absurd s
-  windows_is (Refused (Record index)) s = absurd s
-  windows_is (Refused OddPc) s = absurd s
-  windows_is (Refused LinkOutside) s = absurd s
-  windows_is (Refused MetAgain) s = absurd s
+  pub windows_is : (v : Result ⊤ Refusal) → WindowsSay m v → v ≡ window_verdict m
+  windows_is (Ok tt) w = sym (windows_hold _ _ _ _ w.right w.apart)
+  windows_is (Err Window) d = sym (windows_wrong _ _ _ _ d)
+  windows_is (Err Overlap) (r, d) = sym (windows_overlap _ _ _ _ r d)
+  windows_is (Err (Table entry)) s = absurd s
+  windows_is (Err (Record index)) s = absurd s
+  windows_is (Err OddPc) s = absurd s
+  windows_is (Err LinkOutside) s = absurd s
+  windows_is (Err MetAgain) s = absurd s
 
-  pub windows_exactly : (r : Verdict) → r ≡ window_verdict m → (r ≡ window_verdict m) × Exactly (WindowsSay m) r
+  pub windows_exactly : (r : Result ⊤ Refusal) → r ≡ window_verdict m → (r ≡ window_verdict m) × Exactly (WindowsSay m) r
   windows_exactly = exactly (WindowsSay m) (window_verdict m) windows_say windows_is
 
 -- ---- rules 2 and 3
 module _ (img : List ℕ) where
-  contents_by : (c : ImageCheck) → ImageSays img c → ContentsSay img (image_said c)
-  contents_by image.Holds s = s
-  contents_by (image.Table entry) s = s
-  contents_by (image.Record index) s = s
+  contents_by : (c : Result ⊤ ImageFault) → ImageSays img c → ContentsSay img (image_said c)
+  contents_by (Ok tt) s = s
+  contents_by (Err (Table entry)) s = s
+  contents_by (Err (Record index)) s = s
 
-  pub image_is : (c : ImageCheck) → ImageSays img c → image_of img ≡ c
+  pub image_is : (c : Result ⊤ ImageFault) → ImageSays img c → image_of img ≡ c
   image_is c s = image_only img (image_of img) c (image_says img) s
 
-  contents_is : (v : Verdict) → ContentsSay img v → v ≡ image_verdict img
-  contents_is Accepted s = rw (image_is image.Holds s)
-  contents_is (Refused Window) s = absurd s
-  contents_is (Refused Overlap) s = absurd s
-  contents_is (Refused (Table entry)) s = rw (image_is (image.Table entry) s)
-  contents_is (Refused (Record index)) s = rw (image_is (image.Record index) s)
-  contents_is (Refused OddPc) s = absurd s
-  contents_is (Refused LinkOutside) s = absurd s
-  contents_is (Refused MetAgain) s = absurd s
+  contents_is : (v : Result ⊤ Refusal) → ContentsSay img v → v ≡ image_verdict img
+  contents_is (Ok tt) s = rw (image_is (Ok tt) s)
+  contents_is (Err Window) s = absurd s
+  contents_is (Err Overlap) s = absurd s
+  contents_is (Err (Table entry)) s = rw (image_is (Err (Table entry)) s)
+  contents_is (Err (Record index)) s = rw (image_is (Err (Record index)) s)
+  contents_is (Err OddPc) s = absurd s
+  contents_is (Err LinkOutside) s = absurd s
+  contents_is (Err MetAgain) s = absurd s
 
-  pub contents_exactly : (r : Verdict) → r ≡ image_verdict img → (r ≡ image_verdict img) × Exactly (ContentsSay img) r
+  pub contents_exactly : (r : Result ⊤ Refusal) → r ≡ image_verdict img → (r ≡ image_verdict img) × Exactly (ContentsSay img) r
   contents_exactly = exactly (ContentsSay img) (image_verdict img) (contents_by (image_of img) (image_says img)) contents_is
 
 -- ---- rule 4
@@ -80,25 +78,25 @@ module _ (pc : ℕ) where
       go (yes e) = rw (eq-eqb (pc % 2) 0 e) e
       go (no d) = rw (ne_eqb (pc % 2) 0 d) d
 
-  pc_is : (v : Verdict) → PcSays pc v → v ≡ pc_verdict pc
-  pc_is Accepted e = rw (eq-eqb (pc % 2) 0 e)
-  pc_is (Refused Window) s = absurd s
-  pc_is (Refused Overlap) s = absurd s
-  pc_is (Refused (Table entry)) s = absurd s
-  pc_is (Refused (Record index)) s = absurd s
-  pc_is (Refused OddPc) d = rw (ne_eqb (pc % 2) 0 d)
-  pc_is (Refused LinkOutside) s = absurd s
-  pc_is (Refused MetAgain) s = absurd s
+  pc_is : (v : Result ⊤ Refusal) → PcSays pc v → v ≡ pc_verdict pc
+  pc_is (Ok tt) e = rw (eq-eqb (pc % 2) 0 e)
+  pc_is (Err Window) s = absurd s
+  pc_is (Err Overlap) s = absurd s
+  pc_is (Err (Table entry)) s = absurd s
+  pc_is (Err (Record index)) s = absurd s
+  pc_is (Err OddPc) d = rw (ne_eqb (pc % 2) 0 d)
+  pc_is (Err LinkOutside) s = absurd s
+  pc_is (Err MetAgain) s = absurd s
 
-  pub pc_exactly : (r : Verdict) → r ≡ pc_verdict pc → (r ≡ pc_verdict pc) × Exactly (PcSays pc) r
+  pub pc_exactly : (r : Result ⊤ Refusal) → r ≡ pc_verdict pc → (r ≡ pc_verdict pc) × Exactly (PcSays pc) r
   pc_exactly = exactly (PcSays pc) (pc_verdict pc) pc_says pc_is
 
 -- ---- rules 5 and 6
 module _ (m : Memory) (fcx pcxi : ℕ) where
-  lists_by : WindowsHold m → (e : ListEnd) → ListsCome m fcx pcxi e → ListsSay m fcx pcxi (lists_said e)
-  lists_by w list.Whole c = (w, sound_of m (windows_small m w) fcx pcxi c)
-  lists_by w list.LinkOutside c = (w, c)
-  lists_by w list.MetAgain c = (w, c)
+  lists_by : WindowsHold m → (e : Result ⊤ ListFault) → ListsCome m fcx pcxi e → ListsSay m fcx pcxi (lists_said e)
+  lists_by w (Ok tt) c = (w, sound_of m (windows_small m w) fcx pcxi c)
+  lists_by w (Err LinkOutside) c = (w, c)
+  lists_by w (Err MetAgain) c = (w, c)
 
   lists_say : ListsSay m fcx pcxi (lists_verdict m fcx pcxi)
   lists_say = by (come_of m)
@@ -111,21 +109,21 @@ module _ (m : Memory) (fcx pcxi : ℕ) where
           rw e (lists_by w (lists_of m fcx pcxi) (lists_come m (windows_small m w) fcx pcxi))
 
   -- the end of two lists in windows that rules 1 and 13 accept
-  pub end_is : WindowsHold m → (e : ListEnd) → ListsCome m fcx pcxi e → lists_of m fcx pcxi ≡ e
+  pub end_is : WindowsHold m → (e : Result ⊤ ListFault) → ListsCome m fcx pcxi e → lists_of m fcx pcxi ≡ e
   end_is w e c = lists_only m (windows_small m w) fcx pcxi (lists_of m fcx pcxi) e (lists_come m (windows_small m w) fcx pcxi) c
 
-  ends : WindowsHold m → (e : ListEnd) → ListsCome m fcx pcxi e → lists_said e ≡ lists_verdict m fcx pcxi
-  ends w e c = rw (← windows_is m Accepted w) (ap lists_said (sym (end_is w e c)))
+  ends : WindowsHold m → (e : Result ⊤ ListFault) → ListsCome m fcx pcxi e → lists_said e ≡ lists_verdict m fcx pcxi
+  ends w e c = rw (← windows_is m (Ok tt) w) (ap lists_said (sym (end_is w e c)))
 
-  lists_is : (v : Verdict) → ListsSay m fcx pcxi v → v ≡ lists_verdict m fcx pcxi
-  lists_is Accepted (w, s) = ends w list.Whole (of_sound m (windows_small m w) fcx pcxi s)
-  lists_is (Refused Window) d = rw (← windows_is m (Refused Window) d)
-  lists_is (Refused Overlap) s = rw (← windows_is m (Refused Overlap) s)
-  lists_is (Refused (Table entry)) s = absurd s
-  lists_is (Refused (Record index)) s = absurd s
-  lists_is (Refused OddPc) s = absurd s
-  lists_is (Refused LinkOutside) (w, c) = ends w list.LinkOutside c
-  lists_is (Refused MetAgain) (w, c) = ends w list.MetAgain c
+  lists_is : (v : Result ⊤ Refusal) → ListsSay m fcx pcxi v → v ≡ lists_verdict m fcx pcxi
+  lists_is (Ok tt) (w, s) = ends w (Ok tt) (of_sound m (windows_small m w) fcx pcxi s)
+  lists_is (Err Window) d = rw (← windows_is m (Err Window) d)
+  lists_is (Err Overlap) s = rw (← windows_is m (Err Overlap) s)
+  lists_is (Err (Table entry)) s = absurd s
+  lists_is (Err (Record index)) s = absurd s
+  lists_is (Err OddPc) s = absurd s
+  lists_is (Err LinkOutside) (w, c) = ends w (Err LinkOutside) c
+  lists_is (Err MetAgain) (w, c) = ends w (Err MetAgain) c
 
-  pub lists_verdict_exactly : (r : Verdict) → r ≡ lists_verdict m fcx pcxi → (r ≡ lists_verdict m fcx pcxi) × Exactly (ListsSay m fcx pcxi) r
+  pub lists_verdict_exactly : (r : Result ⊤ Refusal) → r ≡ lists_verdict m fcx pcxi → (r ≡ lists_verdict m fcx pcxi) × Exactly (ListsSay m fcx pcxi) r
   lists_verdict_exactly = exactly (ListsSay m fcx pcxi) (lists_verdict m fcx pcxi) lists_say lists_is

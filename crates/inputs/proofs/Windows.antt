@@ -13,9 +13,9 @@ use Rattle.memory.specs.Memory.{Memory, first_length, second_length}
 use Rattle.memory.specs.declared.address.Address.{Address}
 use Rattle.inputs.specs.Checks.{window_holds, second_holds, apart_holds, windows_verdict, window_verdict}
 use Rattle.inputs.specs.Rules.{WindowRight, WindowsRight, WindowsApart, WindowsHold}
-use Rattle.inputs.specs.declared.verdict.Verdict.{Verdict}
-use Rattle.inputs.specs.declared.verdict.Verdict.TheVariants.{Accepted, Refused}
 use Rattle.inputs.specs.declared.verdict.Refusal.TheVariants.{Window, Overlap}
+use Rattle.std.specs.Prelude.{Err, Ok, Result, ⊤}
+use Rattle.inputs.specs.declared.verdict.Refusal.{Refusal}
 
 module _ (base : Address) (len : ℕ) where
   pub window_right : window_holds base len ≡ true → WindowRight base len
@@ -81,10 +81,10 @@ module _ (base : Address) (len : ℕ) (base2 : Address) (len2 : ℕ) where
   right_apart (inr (inr x)) = rw (le-leb (base2.0 + len2) base.0 x, or-true)
 
   -- the verdict on the windows
-  pub data WindowsCome (v : Verdict) : Type 0 where
-    wrong : v ≡ Refused Window → (WindowsRight base len base2 len2 → ⊥) → WindowsCome v
-    overlap : v ≡ Refused Overlap → WindowsRight base len base2 len2 → (WindowsApart base len base2 len2 → ⊥) → WindowsCome v
-    hold : v ≡ Accepted → WindowsRight base len base2 len2 → WindowsApart base len base2 len2 → WindowsCome v
+  pub data WindowsCome (v : Result ⊤ Refusal) : Type 0 where
+    wrong : v ≡ Err Window → (WindowsRight base len base2 len2 → ⊥) → WindowsCome v
+    overlap : v ≡ Err Overlap → WindowsRight base len base2 len2 → (WindowsApart base len base2 len2 → ⊥) → WindowsCome v
+    hold : v ≡ (Ok tt) → WindowsRight base len base2 len2 → WindowsApart base len base2 len2 → WindowsCome v
 
   windows_come : WindowsCome (windows_verdict base len base2 len2)
   unfolding windows_verdict
@@ -99,26 +99,26 @@ module _ (base : Address) (len : ℕ) (base2 : Address) (len2 : ℕ) where
       by true e true f false g = overlap (rw (e, f, g)) (right e f) (λ x. never (sym (right_apart x) ∙ g))
       by true e true f true g = hold (rw (e, f, g)) (right e f) (apart_right g)
 
-  pub windows_wrong : (WindowsRight base len base2 len2 → ⊥) → windows_verdict base len base2 len2 ≡ Refused Window
+  pub windows_wrong : (WindowsRight base len base2 len2 → ⊥) → windows_verdict base len base2 len2 ≡ Err Window
   windows_wrong d = by windows_come
     where
-      by : WindowsCome (windows_verdict base len base2 len2) → windows_verdict base len base2 len2 ≡ Refused Window
+      by : WindowsCome (windows_verdict base len base2 len2) → windows_verdict base len base2 len2 ≡ Err Window
       by (wrong e x) = e
       by (overlap e r x) = absurd (d r)
       by (hold e r x) = absurd (d r)
 
-  pub windows_overlap : WindowsRight base len base2 len2 → (WindowsApart base len base2 len2 → ⊥) → windows_verdict base len base2 len2 ≡ Refused Overlap
+  pub windows_overlap : WindowsRight base len base2 len2 → (WindowsApart base len base2 len2 → ⊥) → windows_verdict base len base2 len2 ≡ Err Overlap
   windows_overlap r d = by windows_come
     where
-      by : WindowsCome (windows_verdict base len base2 len2) → windows_verdict base len base2 len2 ≡ Refused Overlap
+      by : WindowsCome (windows_verdict base len base2 len2) → windows_verdict base len base2 len2 ≡ Err Overlap
       by (wrong e x) = absurd (x r)
       by (overlap e q x) = e
       by (hold e q x) = absurd (d x)
 
-  pub windows_hold : WindowsRight base len base2 len2 → WindowsApart base len base2 len2 → windows_verdict base len base2 len2 ≡ Accepted
+  pub windows_hold : WindowsRight base len base2 len2 → WindowsApart base len base2 len2 → windows_verdict base len base2 len2 ≡ (Ok tt)
   windows_hold r a = by windows_come
     where
-      by : WindowsCome (windows_verdict base len base2 len2) → windows_verdict base len base2 len2 ≡ Accepted
+      by : WindowsCome (windows_verdict base len base2 len2) → windows_verdict base len base2 len2 ≡ (Ok tt)
       by (wrong e x) = absurd (x r)
       by (overlap e q x) = absurd (x a)
       by (hold e q x) = e

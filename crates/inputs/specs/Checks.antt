@@ -1,22 +1,19 @@
 -- The checks, in document 01's order: rules 1, 13 and 2 to 4 for a step or a run, all seven for a start.
-use Rattle.std.specs.Prelude.{ℕ, ◌+◌, ◌/◌, ◌%◌, ◌^◌, Bool, false, cond, ◌&&◌, ◌||◌, List, length, leb, eqb}
+use Rattle.std.specs.Prelude.{ℕ, ◌+◌, ◌/◌, ◌%◌, ◌^◌, Bool, false, cond, ◌&&◌, ◌||◌, List, length, leb, eqb, Err, Ok, Result, ⊤}
 use Rattle.memory.specs.Memory.{Memory, first_length, second_length}
 use Rattle.memory.specs.declared.address.Address.{Address}
 use Rattle.lists.specs.Walk.{lists_of}
-use Rattle.lists.specs.declared.ListEnd.{ListEnd}
-use Rattle.lists.specs.declared.ListEnd.TheVariants as list
 use Rattle.image.specs.Records.{image_of}
 use Rattle.image.specs.Marks.{long_only}
-use Rattle.image.specs.declared.records.ImageCheck.{ImageCheck}
-use Rattle.image.specs.declared.records.ImageCheck.TheVariants as image
-use Rattle.inputs.specs.declared.verdict.Verdict.{Verdict}
-use Rattle.inputs.specs.declared.verdict.Verdict.TheVariants.{Accepted, Refused}
 use Rattle.inputs.specs.declared.verdict.Refusal.TheVariants.{Window, Overlap, Table, Record, OddPc, LinkOutside, MetAgain}
+use Rattle.inputs.specs.declared.verdict.Refusal.{Refusal}
+use Rattle.image.specs.declared.table.ImageFault.{ImageFault}
+use Rattle.lists.specs.declared.ListFault.{ListFault}
 
 -- the first rule at fault
-abbrev pub and_then : Verdict → Verdict → Verdict
-and_then Accepted v = v
-and_then (Refused r) v = Refused r
+abbrev pub and_then : Result ⊤ Refusal → Result ⊤ Refusal → Result ⊤ Refusal
+and_then (Ok tt) v = v
+and_then (Err r) v = Err r
 
 -- 1: base and length are multiples of 64, the length is 1 to 65,536, and the window lies within one segment below E
 unfoldable pub window_holds : Address → ℕ → Bool
@@ -32,49 +29,49 @@ unfoldable pub apart_holds : Address → ℕ → Address → ℕ → Bool
 apart_holds base len base2 len2 = eqb len2 0 || leb (base.0 + len) base2.0 || leb (base2.0 + len2) base.0
 
 -- 1 is tried on each window in turn, then 13
-unfoldable pub windows_verdict : Address → ℕ → Address → ℕ → Verdict
+unfoldable pub windows_verdict : Address → ℕ → Address → ℕ → Result ⊤ Refusal
 windows_verdict base len base2 len2 =
-    and_then (cond (window_holds base len) Accepted (Refused Window))
-    (and_then (cond (second_holds base2 len2) Accepted (Refused Window)) (cond (apart_holds base len base2 len2) Accepted (Refused Overlap)))
+    and_then (cond (window_holds base len) (Ok tt) (Err Window))
+    (and_then (cond (second_holds base2 len2) (Ok tt) (Err Window)) (cond (apart_holds base len base2 len2) (Ok tt) (Err Overlap)))
 
 -- of the windows of a memory
-abbrev pub window_verdict : Memory → Verdict
+abbrev pub window_verdict : Memory → Result ⊤ Refusal
 window_verdict m =
     let w = m.windows in
     let len = length m.bytes in
     windows_verdict w.first (first_length w len) w.second (second_length w len)
 
 -- 2 and 3
-abbrev pub image_said : ImageCheck → Verdict
-image_said image.Holds = Accepted
-image_said (image.Table entry) = Refused (Table entry)
-image_said (image.Record index) = Refused (Record index)
+abbrev pub image_said : Result ⊤ ImageFault → Result ⊤ Refusal
+image_said (Ok tt) = Ok tt
+image_said (Err (Table entry)) = Err (Table entry)
+image_said (Err (Record index)) = Err (Record index)
 
-abbrev pub image_verdict : List ℕ → Verdict
+abbrev pub image_verdict : List ℕ → Result ⊤ Refusal
 image_verdict img = image_said (image_of img)
 
 -- 4
-abbrev pub pc_verdict : ℕ → Verdict
-pc_verdict pc = cond (eqb (pc % 2) 0) Accepted (Refused OddPc)
+abbrev pub pc_verdict : ℕ → Result ⊤ Refusal
+pc_verdict pc = cond (eqb (pc % 2) 0) (Ok tt) (Err OddPc)
 
 -- 5 and 6, of windows that rules 1 and 13 accept
-abbrev pub lists_said : ListEnd → Verdict
-lists_said list.Whole = Accepted
-lists_said list.LinkOutside = Refused LinkOutside
-lists_said list.MetAgain = Refused MetAgain
+abbrev pub lists_said : Result ⊤ ListFault → Result ⊤ Refusal
+lists_said (Ok tt) = Ok tt
+lists_said (Err LinkOutside) = Err LinkOutside
+lists_said (Err MetAgain) = Err MetAgain
 
-abbrev pub lists_verdict : Memory → ℕ → ℕ → Verdict
+abbrev pub lists_verdict : Memory → ℕ → ℕ → Result ⊤ Refusal
 lists_verdict m fcx pcxi = and_then (window_verdict m) (lists_said (lists_of m fcx pcxi))
 
 -- what a step, or a run from a given state, is tried with
-unfoldable pub step_verdict : Memory → List ℕ → ℕ → Verdict
+unfoldable pub step_verdict : Memory → List ℕ → ℕ → Result ⊤ Refusal
 step_verdict m img pc = and_then (window_verdict m) (and_then (image_verdict img) (pc_verdict pc))
 
 -- what a start is tried with
-unfoldable pub start_verdict : Memory → List ℕ → ℕ → ℕ → ℕ → Verdict
+unfoldable pub start_verdict : Memory → List ℕ → ℕ → ℕ → ℕ → Result ⊤ Refusal
 start_verdict m img pc fcx pcxi = and_then (step_verdict m img pc) (lists_said (lists_of m fcx pcxi))
 
 -- whether an image has no short form is told where the input is accepted
-abbrev pub long_told : List ℕ → Verdict → Bool
-long_told img Accepted = long_only img
-long_told img (Refused r) = false
+abbrev pub long_told : List ℕ → Result ⊤ Refusal → Bool
+long_told img (Ok tt) = long_only img
+long_told img (Err r) = false

@@ -1,13 +1,11 @@
 -- The rules as plain statements, and what each verdict says: the first rule at fault, those before it holding.
-use Rattle.std.specs.Prelude.{ℕ, ◌+◌, ◌/◌, ◌%◌, ◌^◌, ◌≤◌, ◌≡◌, ◌⊎◌, List, length}
+use Rattle.std.specs.Prelude.{ℕ, ◌+◌, ◌/◌, ◌%◌, ◌^◌, ◌≤◌, ◌≡◌, ◌⊎◌, List, length, Err, Ok, Result, ⊤}
 use Rattle.memory.specs.Memory.{Memory, first_length, second_length}
 use Rattle.memory.specs.declared.address.Address.{Address}
 use Rattle.lists.specs.Lists.{Sound, ListsCome}
-use Rattle.lists.specs.declared.ListEnd.TheVariants as list
 use Rattle.image.specs.Rules.{ImageRight, TableFault, RecordFault}
-use Rattle.inputs.specs.declared.verdict.Verdict.{Verdict}
-use Rattle.inputs.specs.declared.verdict.Verdict.TheVariants.{Accepted, Refused}
 use Rattle.inputs.specs.declared.verdict.Refusal.TheVariants.{Window, Overlap, Table, Record, OddPc, LinkOutside, MetAgain}
+use Rattle.inputs.specs.declared.verdict.Refusal.{Refusal}
 
 -- rule 1, of one window. A segment is all addresses with the same bits 31:28
 pub record WindowRight (base : Address) (len : ℕ) : Type 0 where
@@ -56,67 +54,67 @@ pub record StepRight (m : Memory) (img : List ℕ) (pc : ℕ) : Type 0 where
   pub even : Even pc
 
 -- what a verdict says of rules 1 and 13
-abbrev pub WindowsSay : Memory → Verdict → Type 0
-WindowsSay m Accepted = WindowsHold m
-WindowsSay m (Refused Window) = RightOf m → ⊥
-WindowsSay m (Refused Overlap) = RightOf m × (ApartOf m → ⊥)
-WindowsSay m (Refused (Table entry)) = ⊥
-WindowsSay m (Refused (Record index)) = ⊥
-WindowsSay m (Refused OddPc) = ⊥
-WindowsSay m (Refused LinkOutside) = ⊥
-WindowsSay m (Refused MetAgain) = ⊥
+abbrev pub WindowsSay : Memory → Result ⊤ Refusal → Type 0
+WindowsSay m (Ok tt) = WindowsHold m
+WindowsSay m (Err Window) = RightOf m → ⊥
+WindowsSay m (Err Overlap) = RightOf m × (ApartOf m → ⊥)
+WindowsSay m (Err (Table entry)) = ⊥
+WindowsSay m (Err (Record index)) = ⊥
+WindowsSay m (Err OddPc) = ⊥
+WindowsSay m (Err LinkOutside) = ⊥
+WindowsSay m (Err MetAgain) = ⊥
 
 -- of rules 2 and 3
-abbrev pub ContentsSay : List ℕ → Verdict → Type 0
-ContentsSay img Accepted = ImageRight img
-ContentsSay img (Refused Window) = ⊥
-ContentsSay img (Refused Overlap) = ⊥
-ContentsSay img (Refused (Table entry)) = TableFault img entry
-ContentsSay img (Refused (Record index)) = RecordFault img index
-ContentsSay img (Refused OddPc) = ⊥
-ContentsSay img (Refused LinkOutside) = ⊥
-ContentsSay img (Refused MetAgain) = ⊥
+abbrev pub ContentsSay : List ℕ → Result ⊤ Refusal → Type 0
+ContentsSay img (Ok tt) = ImageRight img
+ContentsSay img (Err Window) = ⊥
+ContentsSay img (Err Overlap) = ⊥
+ContentsSay img (Err (Table entry)) = TableFault img entry
+ContentsSay img (Err (Record index)) = RecordFault img index
+ContentsSay img (Err OddPc) = ⊥
+ContentsSay img (Err LinkOutside) = ⊥
+ContentsSay img (Err MetAgain) = ⊥
 
 -- of rule 4
-abbrev pub PcSays : ℕ → Verdict → Type 0
-PcSays pc Accepted = Even pc
-PcSays pc (Refused Window) = ⊥
-PcSays pc (Refused Overlap) = ⊥
-PcSays pc (Refused (Table entry)) = ⊥
-PcSays pc (Refused (Record index)) = ⊥
-PcSays pc (Refused OddPc) = Even pc → ⊥
-PcSays pc (Refused LinkOutside) = ⊥
-PcSays pc (Refused MetAgain) = ⊥
+abbrev pub PcSays : ℕ → Result ⊤ Refusal → Type 0
+PcSays pc (Ok tt) = Even pc
+PcSays pc (Err Window) = ⊥
+PcSays pc (Err Overlap) = ⊥
+PcSays pc (Err (Table entry)) = ⊥
+PcSays pc (Err (Record index)) = ⊥
+PcSays pc (Err OddPc) = Even pc → ⊥
+PcSays pc (Err LinkOutside) = ⊥
+PcSays pc (Err MetAgain) = ⊥
 
 -- of rules 5 and 6, of windows that rules 1 and 13 accept
-abbrev pub ListsSay : Memory → ℕ → ℕ → Verdict → Type 0
-ListsSay m fcx pcxi Accepted = WindowsHold m × Sound m fcx pcxi
-ListsSay m fcx pcxi (Refused Window) = RightOf m → ⊥
-ListsSay m fcx pcxi (Refused Overlap) = RightOf m × (ApartOf m → ⊥)
-ListsSay m fcx pcxi (Refused (Table entry)) = ⊥
-ListsSay m fcx pcxi (Refused (Record index)) = ⊥
-ListsSay m fcx pcxi (Refused OddPc) = ⊥
-ListsSay m fcx pcxi (Refused LinkOutside) = WindowsHold m × ListsCome m fcx pcxi list.LinkOutside
-ListsSay m fcx pcxi (Refused MetAgain) = WindowsHold m × ListsCome m fcx pcxi list.MetAgain
+abbrev pub ListsSay : Memory → ℕ → ℕ → Result ⊤ Refusal → Type 0
+ListsSay m fcx pcxi (Ok tt) = WindowsHold m × Sound m fcx pcxi
+ListsSay m fcx pcxi (Err Window) = RightOf m → ⊥
+ListsSay m fcx pcxi (Err Overlap) = RightOf m × (ApartOf m → ⊥)
+ListsSay m fcx pcxi (Err (Table entry)) = ⊥
+ListsSay m fcx pcxi (Err (Record index)) = ⊥
+ListsSay m fcx pcxi (Err OddPc) = ⊥
+ListsSay m fcx pcxi (Err LinkOutside) = WindowsHold m × ListsCome m fcx pcxi (Err LinkOutside)
+ListsSay m fcx pcxi (Err MetAgain) = WindowsHold m × ListsCome m fcx pcxi (Err MetAgain)
 
 -- of rules 1, 13 and 2 to 4, in their order
-abbrev pub StepSays : Memory → List ℕ → ℕ → Verdict → Type 0
-StepSays m img pc Accepted = StepRight m img pc
-StepSays m img pc (Refused Window) = RightOf m → ⊥
-StepSays m img pc (Refused Overlap) = RightOf m × (ApartOf m → ⊥)
-StepSays m img pc (Refused (Table entry)) = WindowsHold m × TableFault img entry
-StepSays m img pc (Refused (Record index)) = WindowsHold m × RecordFault img index
-StepSays m img pc (Refused OddPc) = WindowsHold m × ImageRight img × (Even pc → ⊥)
-StepSays m img pc (Refused LinkOutside) = ⊥
-StepSays m img pc (Refused MetAgain) = ⊥
+abbrev pub StepSays : Memory → List ℕ → ℕ → Result ⊤ Refusal → Type 0
+StepSays m img pc (Ok tt) = StepRight m img pc
+StepSays m img pc (Err Window) = RightOf m → ⊥
+StepSays m img pc (Err Overlap) = RightOf m × (ApartOf m → ⊥)
+StepSays m img pc (Err (Table entry)) = WindowsHold m × TableFault img entry
+StepSays m img pc (Err (Record index)) = WindowsHold m × RecordFault img index
+StepSays m img pc (Err OddPc) = WindowsHold m × ImageRight img × (Even pc → ⊥)
+StepSays m img pc (Err LinkOutside) = ⊥
+StepSays m img pc (Err MetAgain) = ⊥
 
 -- and of all seven
-abbrev pub StartSays : Memory → List ℕ → ℕ → ℕ → ℕ → Verdict → Type 0
-StartSays m img pc fcx pcxi Accepted = StepRight m img pc × Sound m fcx pcxi
-StartSays m img pc fcx pcxi (Refused Window) = RightOf m → ⊥
-StartSays m img pc fcx pcxi (Refused Overlap) = RightOf m × (ApartOf m → ⊥)
-StartSays m img pc fcx pcxi (Refused (Table entry)) = WindowsHold m × TableFault img entry
-StartSays m img pc fcx pcxi (Refused (Record index)) = WindowsHold m × RecordFault img index
-StartSays m img pc fcx pcxi (Refused OddPc) = WindowsHold m × ImageRight img × (Even pc → ⊥)
-StartSays m img pc fcx pcxi (Refused LinkOutside) = StepRight m img pc × ListsCome m fcx pcxi list.LinkOutside
-StartSays m img pc fcx pcxi (Refused MetAgain) = StepRight m img pc × ListsCome m fcx pcxi list.MetAgain
+abbrev pub StartSays : Memory → List ℕ → ℕ → ℕ → ℕ → Result ⊤ Refusal → Type 0
+StartSays m img pc fcx pcxi (Ok tt) = StepRight m img pc × Sound m fcx pcxi
+StartSays m img pc fcx pcxi (Err Window) = RightOf m → ⊥
+StartSays m img pc fcx pcxi (Err Overlap) = RightOf m × (ApartOf m → ⊥)
+StartSays m img pc fcx pcxi (Err (Table entry)) = WindowsHold m × TableFault img entry
+StartSays m img pc fcx pcxi (Err (Record index)) = WindowsHold m × RecordFault img index
+StartSays m img pc fcx pcxi (Err OddPc) = WindowsHold m × ImageRight img × (Even pc → ⊥)
+StartSays m img pc fcx pcxi (Err LinkOutside) = StepRight m img pc × ListsCome m fcx pcxi (Err LinkOutside)
+StartSays m img pc fcx pcxi (Err MetAgain) = StepRight m img pc × ListsCome m fcx pcxi (Err MetAgain)

@@ -60,23 +60,23 @@ fn apart_holds(base: Address, len: usize, base2: Address, len2: usize) -> bool
 }
 
 // Rule 1 on each window in turn, then rule 13.
-fn try_windows(base: Address, len: usize, base2: Address, len2: usize) -> Verdict
+fn try_windows(base: Address, len: usize, base2: Address, len2: usize) -> Result<(), Refusal>
     ensures { result ≡ windows_verdict base len base2 len2 }
 {
     if window_holds(base, len) {
         if second_holds(base2, len2) {
             if apart_holds(base, len, base2, len2) {
-                return Verdict::Accepted;
+                return Ok(());
             }
-            return Verdict::Refused(Refusal::Overlap);
+            return Err(Refusal::Overlap);
         }
-        return Verdict::Refused(Refusal::Window);
+        return Err(Refusal::Window);
     }
-    Verdict::Refused(Refusal::Window)
+    Err(Refusal::Window)
 }
 
 // Rules 1 and 13.
-pub fn check_windows(base: Address, window: &[u8], base2: Address, window2: &[u8]) -> Verdict
+pub fn check_windows(base: Address, window: &[u8], base2: Address, window2: &[u8]) -> Result<(), Refusal>
     ensures verdict { (result ≡ window_verdict (lent base window.now base2 window2.now)) × Exactly (WindowsSay (lent base window.now base2 window2.now)) result }
     ensures unchanged { (window.exit.now ≡ window.entry.now) × (window2.exit.now ≡ window2.entry.now) }
 {
@@ -84,18 +84,18 @@ pub fn check_windows(base: Address, window: &[u8], base2: Address, window2: &[u8
 }
 
 // The answer of the image's check as a verdict.
-fn image_said(check: ImageCheck) -> Verdict
+fn image_said(check: Result<(), ImageFault>) -> Result<(), Refusal>
     ensures { result ≡ image_said check }
 {
     match check {
-        ImageCheck::Holds => Verdict::Accepted,
-        ImageCheck::Table(entry) => Verdict::Refused(Refusal::Table(entry)),
-        ImageCheck::Record(index) => Verdict::Refused(Refusal::Record(index)),
+        Ok(()) => Ok(()),
+        Err(ImageFault::Table(entry)) => Err(Refusal::Table(entry)),
+        Err(ImageFault::Record(index)) => Err(Refusal::Record(index)),
     }
 }
 
 // Rules 2 and 3.
-pub fn check_image(image: &[u8]) -> Verdict
+pub fn check_image(image: &[u8]) -> Result<(), Refusal>
     ensures verdict { (result ≡ image_verdict image.now) × Exactly (ContentsSay image.now) result }
     ensures unchanged { image.exit.now ≡ image.entry.now }
 {
@@ -103,13 +103,13 @@ pub fn check_image(image: &[u8]) -> Verdict
 }
 
 // Rule 4.
-pub fn check_pc(pc: u32) -> Verdict
+pub fn check_pc(pc: u32) -> Result<(), Refusal>
     ensures { (result ≡ pc_verdict pc) × Exactly (PcSays pc) result }
 {
     if pc % 2 == 0 {
-        return Verdict::Accepted;
+        return Ok(());
     }
-    Verdict::Refused(Refusal::OddPc)
+    Err(Refusal::OddPc)
 }
 
 // Rules 5 and 6, of windows that rules 1 and 13 accept: the free list from FCX, then the used one from PCXI.
@@ -120,13 +120,13 @@ pub fn check_lists<'a>(
     window2: &'a [u8],
     fcx: u32,
     pcxi: u32,
-) -> Verdict
+) -> Result<(), Refusal>
     ensures verdict { (result ≡ lists_verdict (lent base window.now base2 window2.now) fcx pcxi) × Exactly (ListsSay (lent base window.now base2 window2.now) fcx pcxi) result }
     ensures unchanged { (window.exit.now ≡ window.entry.now) × (window2.exit.now ≡ window2.entry.now) }
 {
     match check_windows(base, window, base2, window2) {
-        Verdict::Refused(r) => Verdict::Refused(r),
-        Verdict::Accepted => try_lists(base, window, base2, window2, fcx, pcxi),
+        Err(r) => Err(r),
+        Ok(()) => try_lists(base, window, base2, window2, fcx, pcxi),
     }
 }
 
@@ -137,31 +137,31 @@ fn try_lists<'a>(
     window2: &'a [u8],
     fcx: u32,
     pcxi: u32,
-) -> Verdict
+) -> Result<(), Refusal>
     requires { length (window.now ++ window2.now) ≤ 0x2_0000 }
     ensures { result ≡ lists_said (lists_of (lent base window.now base2 window2.now) fcx pcxi) }
 {
     match lists::check(base, window, base2, window2, fcx, pcxi) {
-        ListEnd::Whole => Verdict::Accepted,
-        ListEnd::LinkOutside => Verdict::Refused(Refusal::LinkOutside),
-        ListEnd::MetAgain => Verdict::Refused(Refusal::MetAgain),
+        Ok(()) => Ok(()),
+        Err(ListFault::LinkOutside) => Err(Refusal::LinkOutside),
+        Err(ListFault::MetAgain) => Err(Refusal::MetAgain),
     }
 }
 
 // A verdict, and of an image that is accepted whether it has no short form.
 #[derive(Clone, Copy)]
 pub struct Tried {
-    pub verdict: Verdict,
+    pub verdict: Result<(), Refusal>,
     pub long: bool,
 }
 
 // Of an input that is refused nothing is told.
-fn long_told(v: Verdict, long: bool) -> bool
+fn long_told(v: Result<(), Refusal>, long: bool) -> bool
     ensures { (img : List ℕ) → long ≡ long_only img → result ≡ long_told img v }
 {
     match v {
-        Verdict::Accepted => long,
-        Verdict::Refused(_) => false,
+        Ok(()) => long,
+        Err(_) => false,
     }
 }
 
@@ -172,11 +172,11 @@ fn try_code(image: &[u8], pc: u32) -> Tried
     let s = image::records::scan_image(image);
     let check = s.check;
     match image_said(check) {
-        Verdict::Refused(r) => Tried {
-            verdict: Verdict::Refused(r),
+        Err(r) => Tried {
+            verdict: Err(r),
             long: false,
         },
-        Verdict::Accepted => {
+        Ok(()) => {
             let v = check_pc(pc);
             Tried {
                 verdict: v,
@@ -199,11 +199,11 @@ pub fn scan_step(
     ensures unchanged { (window.exit.now ≡ window.entry.now) × (window2.exit.now ≡ window2.entry.now) × (image.exit.now ≡ image.entry.now) }
 {
     match check_windows(base, window, base2, window2) {
-        Verdict::Refused(r) => Tried {
-            verdict: Verdict::Refused(r),
+        Err(r) => Tried {
+            verdict: Err(r),
             long: false,
         },
-        Verdict::Accepted => try_code(image, pc),
+        Ok(()) => try_code(image, pc),
     }
 }
 
@@ -214,7 +214,7 @@ pub fn try_step(
     window2: &[u8],
     image: &[u8],
     pc: u32,
-) -> Verdict
+) -> Result<(), Refusal>
     ensures verdict { (result ≡ step_verdict (lent base window.now base2 window2.now) image.now pc) × Exactly (StepSays (lent base window.now base2 window2.now) image.now pc) result }
     ensures unchanged { (window.exit.now ≡ window.entry.now) × (window2.exit.now ≡ window2.entry.now) × (image.exit.now ≡ image.entry.now) }
 {
@@ -231,12 +231,12 @@ pub fn try_start<'a>(
     pc: u32,
     fcx: u32,
     pcxi: u32,
-) -> Verdict
+) -> Result<(), Refusal>
     ensures verdict { (result ≡ start_verdict (lent base window.now base2 window2.now) image.now pc fcx pcxi) × Exactly (StartSays (lent base window.now base2 window2.now) image.now pc fcx pcxi) result }
     ensures unchanged { (window.exit.now ≡ window.entry.now) × (window2.exit.now ≡ window2.entry.now) × (image.exit.now ≡ image.entry.now) }
 {
     match try_step(base, window, base2, window2, image, pc) {
-        Verdict::Refused(r) => Verdict::Refused(r),
-        Verdict::Accepted => try_lists(base, window, base2, window2, fcx, pcxi),
+        Err(r) => Err(r),
+        Ok(()) => try_lists(base, window, base2, window2, fcx, pcxi),
     }
 }

@@ -17,12 +17,12 @@ use inputs::verdict::{Verdict, fault, number};
 use memory::address::as_address;
 
 // 0 for accepted; else the rule's number, and its place in the high word.
-fn packed(v: Verdict) -> u64
+fn packed(v: Result<(), Refusal>) -> u64
     ensures { result ≡ verdict_of v }
 {
     match v {
-        Verdict::Accepted => 0,
-        Verdict::Refused(r) => fault(r) as u64 * 0x1_0000_0000 + number(r) as u64,
+        Ok(()) => 0,
+        Err(r) => fault(r) as u64 * 0x1_0000_0000 + number(r) as u64,
     }
 }
 
@@ -89,9 +89,9 @@ pub extern "C" fn deqbaryn_fetch(image: &[u8], pc: u32) -> u64
     ensures { (result ≡ exported_fetch image.now pc) × FetchTold image.now pc result }
 {
     match image::records::check_image(image) {
-        image::records::ImageCheck::Holds => fetched(image, pc),
-        image::records::ImageCheck::Table(_) => 0,
-        image::records::ImageCheck::Record(_) => 0,
+        image::records::Ok(()) => fetched(image, pc),
+        image::records::Err(ImageFault::Table(_)) => 0,
+        image::records::Err(ImageFault::Record(_)) => 0,
     }
 }
 
@@ -100,8 +100,8 @@ fn fetched(image: &[u8], pc: u32) -> u64
     ensures { (result ≡ fetched_of image.now pc) × FetchTells image.now pc result }
 {
     match fetch(image, pc) {
-        Fetched::Nothing => 0,
-        Fetched::Found(i) => {
+        None => 0,
+        Some(i) => {
             i.imm as u64 * 0x1_0000_0000
                 + i.b as u64 * 0x100_0000
                 + i.a as u64 * 0x1_0000

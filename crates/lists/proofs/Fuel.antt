@@ -15,28 +15,27 @@ use Rattle.areas.specs.Link.{area_address}
 use Rattle.areas.specs.Place.{place_of}
 use Rattle.lists.specs.Walk.{Walked, list_walk}
 use Rattle.fields.specs.declared.link.Link.{Link}
-use Rattle.areas.specs.declared.link.Place.{Place}
-use Rattle.areas.specs.declared.link.Place.TheVariants.{At, Outside}
 use Rattle.areas.proofs.Places.{placed_at_lem}
 use Rattle.lists.proofs.Walks.{walk_over, walk_whole, walk_outside, walk_again, walk_on}
+use Rattle.std.specs.Prelude.{None, Option, Some}
 
 -- which of the four cases a link is in
 pub data Turn (m : Memory) (l : Link) (met : List Bool) : Type 0 where
   ends : l.0 ≡ 0 → Turn m l met
-  outside : (l.0 ≡ 0 → ⊥) → place_of m l ≡ Outside → Turn m l met
-  again : (at : ℕ) → (l.0 ≡ 0 → ⊥) → place_of m l ≡ At at → get_or met (at / 64) false ≡ true → Turn m l met
-  onward : (at : ℕ) → (l.0 ≡ 0 → ⊥) → place_of m l ≡ At at → get_or met (at / 64) false ≡ false → Turn m l met
+  outside : (l.0 ≡ 0 → ⊥) → place_of m l ≡ None → Turn m l met
+  again : (at : ℕ) → (l.0 ≡ 0 → ⊥) → place_of m l ≡ Some at → get_or met (at / 64) false ≡ true → Turn m l met
+  onward : (at : ℕ) → (l.0 ≡ 0 → ⊥) → place_of m l ≡ Some at → get_or met (at / 64) false ≡ false → Turn m l met
 
 pub turn : (m : Memory) (l : Link) (met : List Bool) → Turn m l met
 turn m l met = first (ℕ_discrete l.0 0)
   where
-    third : (at : ℕ) → (l.0 ≡ 0 → ⊥) → place_of m l ≡ At at → (b : Bool) → get_or met (at / 64) false ≡ b → Turn m l met
+    third : (at : ℕ) → (l.0 ≡ 0 → ⊥) → place_of m l ≡ Some at → (b : Bool) → get_or met (at / 64) false ≡ b → Turn m l met
     third at z p true e = again at z p e
     third at z p false e = onward at z p e
 
-    second : (l.0 ≡ 0 → ⊥) → (q : Place) → place_of m l ≡ q → Turn m l met
-    second z (At at) p = third at z p (get_or met (at / 64) false) refl
-    second z Outside p = outside z p
+    second : (l.0 ≡ 0 → ⊥) → (q : Option ℕ) → place_of m l ≡ q → Turn m l met
+    second z (Some at) p = third at z p (get_or met (at / 64) false) refl
+    second z None p = outside z p
 
     first : Dec (l.0 ≡ 0) → Turn m l met
     first (yes e) = ends e
@@ -63,7 +62,7 @@ unmet_set (true ∷ s) (suc k) h e = unmet_set s k (omega arith) e
 unmet_set (false ∷ s) (suc k) h e = ap suc (unmet_set s k (omega arith) e)
 
 -- the place of an area among the marks
-pub mark_in : (m : Memory) (l : Link) (met : List Bool) (at : ℕ) → length m.bytes ≤ 131072 → length met ≡ 2048 → place_of m l ≡ At at → at / 64 < length met
+pub mark_in : (m : Memory) (l : Link) (met : List Bool) (at : ℕ) → length m.bytes ≤ 131072 → length met ≡ 2048 → place_of m l ≡ Some at → at / 64 < length met
 mark_in m l met at hm hs p = omega (arith, (placed_at_lem m.windows (length m.bytes) (area_address l) at p).inside)
 
 pub walk_enough : (f : ℕ) (m : Memory) (l : Link) (met : List Bool) → length m.bytes ≤ 131072 → length met ≡ 2048 → unmet met < f
@@ -82,7 +81,7 @@ walk_enough (suc f) m l met hm hs hu = go (turn m l met) (walk_enough f m)
         walk_on (suc f) m l met z at p t ∙ r (link_of (word_at m.bytes at)) (set met (at / 64) true) hm s (omega arith) ∙ sym (walk_on f m l met z at p t)
 
 -- a turn that goes on, with as many links left as before
-pub walk_next : (m : Memory) (l : Link) (met : List Bool) (at : ℕ) → length m.bytes ≤ 131072 → length met ≡ 2048 → (l.0 ≡ 0 → ⊥) → place_of m l ≡ At at → get_or met (at / 64) false ≡ false
+pub walk_next : (m : Memory) (l : Link) (met : List Bool) (at : ℕ) → length m.bytes ≤ 131072 → length met ≡ 2048 → (l.0 ≡ 0 → ⊥) → place_of m l ≡ Some at → get_or met (at / 64) false ≡ false
     → list_walk 2049 m l met ≡ list_walk 2049 m (link_of (word_at m.bytes at)) (set met (at / 64) true)
 walk_next m l met at hm hs z p t =
     let u = unmet_set met (at / 64) (mark_in m l met at hm hs p) t in

@@ -15,9 +15,6 @@ use Rattle.areas.specs.Place.{place_of}
 use Rattle.lists.specs.Walk.{Walked, walked, list_walk, then_used, lists_of}
 use Rattle.lists.specs.Lists.{Leads, one, count, Sound, Why, Comes, ListsCome, at_free, at_used}
 use Rattle.fields.specs.declared.link.Link.{Link}
-use Rattle.areas.specs.declared.link.Place.TheVariants.{At, Outside}
-use Rattle.lists.specs.declared.ListEnd.{ListEnd}
-use Rattle.lists.specs.declared.ListEnd.TheVariants.{Whole, LinkOutside, MetAgain}
 use Rattle.lists.proofs.Counts.{same?, one_self, one_other}
 use Rattle.words.specs.Exactly.{Exactly}
 use Rattle.words.proofs.Truth.{never}
@@ -25,12 +22,15 @@ use Rattle.words.proofs.Answers.{exactly}
 use Rattle.areas.proofs.Places.{apart, never_at}
 use Rattle.lists.proofs.Walks.{walk_whole, walk_outside, walk_again, walk_on}
 use Rattle.lists.proofs.Fuel.{Turn, ends, outside, again, onward, turn, unmet, unmet_le, unmet_set, mark_in}
+use Rattle.std.specs.Prelude.{Err, None, Ok, Result, Some, ⊤}
+use Rattle.lists.specs.declared.ListFault.{ListFault}
+use Rattle.lists.specs.declared.ListFault.TheVariants.{LinkOutside, MetAgain}
 
 -- ---- the marks say which links were met: `c` counts how often
 pub record Marked (m : Memory) (met : List Bool) (c : Link → ℕ) : Type 0 where
   pub many : length met ≡ 2048
-  pub yes_met : (l : Link) (at : ℕ) → l.0 < 2 ^ 20 → place_of m l ≡ At at → get_or met (at / 64) false ≡ true → 1 ≤ c l
-  pub not_met : (l : Link) (at : ℕ) → l.0 < 2 ^ 20 → place_of m l ≡ At at → get_or met (at / 64) false ≡ false → c l ≡ 0
+  pub yes_met : (l : Link) (at : ℕ) → l.0 < 2 ^ 20 → place_of m l ≡ Some at → get_or met (at / 64) false ≡ true → 1 ≤ c l
+  pub not_met : (l : Link) (at : ℕ) → l.0 < 2 ^ 20 → place_of m l ≡ Some at → get_or met (at / 64) false ≡ false → c l ≡ 0
 
 marked_same : {m : Memory} {met : List Bool} {c d : Link → ℕ} → ((l : Link) → c l ≡ d l) → Marked m met c → Marked m met d
 marked_same h k =
@@ -45,14 +45,14 @@ marked_none m small =
     }
 
 -- the area of k is marked
-module _ (m : Memory) (small : length m.bytes ≤ 131072) (met : List Bool) (c : Link → ℕ) (g : Marked m met c) (k : Link) (bk : k.0 < 2 ^ 20) (kt : ℕ) (pk : place_of m k ≡ At kt) where
-  other : (l : Link) (at : ℕ) → l.0 < 2 ^ 20 → place_of m l ≡ At at → (l.0 ≡ k.0 → ⊥) → get_or (set met (kt / 64) true) (at / 64) false ≡ get_or met (at / 64) false
+module _ (m : Memory) (small : length m.bytes ≤ 131072) (met : List Bool) (c : Link → ℕ) (g : Marked m met c) (k : Link) (bk : k.0 < 2 ^ 20) (kt : ℕ) (pk : place_of m k ≡ Some kt) where
+  other : (l : Link) (at : ℕ) → l.0 < 2 ^ 20 → place_of m l ≡ Some at → (l.0 ≡ k.0 → ⊥) → get_or (set met (kt / 64) true) (at / 64) false ≡ get_or met (at / 64) false
   other l at b p d =
       get_or-set_other met (kt / 64) (at / 64) true false
       (λ e. ⊎_elim (λ x. omega arith) (λ x. omega arith) (apart m.windows (length m.bytes) l k at kt b bk d p pk))
 
-  same_place : (l : Link) (at : ℕ) → l ≡ k → place_of m l ≡ At at → kt ≡ at
-  same_place l at e p = let q : place_of m k ≡ At at = rw (← e) p in cc
+  same_place : (l : Link) (at : ℕ) → l ≡ k → place_of m l ≡ Some at → kt ≡ at
+  same_place l at e p = let q : place_of m k ≡ Some at = rw (← e) p in cc
 
   marked_more : Marked m (set met (kt / 64) true) (λ l. one l k + c l)
   marked_more =
@@ -68,10 +68,10 @@ module _ (m : Memory) (small : length m.bytes ≤ 131072) (met : List Bool) (c :
       }
 
 -- ---- what a walk comes to, by counts
-why_at : Memory → (Link → ℕ) → Link → ListEnd → Type 0
-why_at m c r Whole = r.0 ≡ 0
-why_at m c r LinkOutside = (r.0 ≡ 0 → ⊥) × (place_of m r ≡ Outside)
-why_at m c r MetAgain = (r.0 ≡ 0 → ⊥) × (at : ℕ) × (place_of m r ≡ At at) × (1 ≤ c r)
+why_at : Memory → (Link → ℕ) → Link → Result ⊤ ListFault → Type 0
+why_at m c r (Ok tt) = r.0 ≡ 0
+why_at m c r (Err LinkNone) = (r.0 ≡ 0 → ⊥) × (place_of m r ≡ None)
+why_at m c r (Err MetAgain) = (r.0 ≡ 0 → ⊥) × (at : ℕ) × (place_of m r ≡ Some at) × (1 ≤ c r)
 
 record Goes (m : Memory) (c : Link → ℕ) (l : Link) (w : Walked) : Type 0 where
   met : List Link
@@ -81,14 +81,14 @@ record Goes (m : Memory) (c : Link → ℕ) (l : Link) (w : Walked) : Type 0 whe
   why : why_at m (λ k. c k + count k met) last w.end
   marks : Marked m w.met (λ k. c k + count k met)
 
-why_same : (m : Memory) {c d : Link → ℕ} (r : Link) (e : ListEnd) → ((l : Link) → c l ≡ d l) → why_at m c r e → why_at m d r e
+why_same : (m : Memory) {c d : Link → ℕ} (r : Link) (e : Result ⊤ ListFault) → ((l : Link) → c l ≡ d l) → why_at m c r e → why_at m d r e
 unfolding why_at
-why_same m r Whole h w = w
-why_same m r LinkOutside h w = w
-why_same m r MetAgain h (z, at, p, k) = (z, at, p, rw (← h r) k)
+why_same m r (Ok tt) h w = w
+why_same m r (Err LinkNone) h w = w
+why_same m r (Err MetAgain) h (z, at, p, k) = (z, at, p, rw (← h r) k)
 
 -- one more link in front
-module _ (m : Memory) (c : Link → ℕ) (l : Link) (at : ℕ) (z : l.0 ≡ 0 → ⊥) (p : place_of m l ≡ At at) (w : Walked) where
+module _ (m : Memory) (c : Link → ℕ) (l : Link) (at : ℕ) (z : l.0 ≡ 0 → ⊥) (p : place_of m l ≡ Some at) (w : Walked) where
   regroup : (k : Link) (ks : List Link) → one k l + c k + count k ks ≡ c k + count k (l ∷ ks)
   regroup k ks = omega arith
 
@@ -106,7 +106,7 @@ module _ (m : Memory) (c : Link → ℕ) (l : Link) (at : ℕ) (z : l.0 ≡ 0 �
 link_lt : (w : ℕ) → (link_of w).0 < 2 ^ 20
 link_lt w = omega arith
 
-goes_here : (m : Memory) (c : Link → ℕ) (l : Link) (met : List Bool) (e : ListEnd) → ((k : Link) → c k ≤ 1) → Marked m met c → why_at m (λ k. c k + 0) l e → Goes m c l (walked e met)
+goes_here : (m : Memory) (c : Link → ℕ) (l : Link) (met : List Bool) (e : Result ⊤ ListFault) → ((k : Link) → c k ≤ 1) → Marked m met c → why_at m (λ k. c k + 0) l e → Goes m c l (walked e met)
 goes_here m c l met e o g y =
     record { met = []; last = l; leads = refl; first = λ k. omega (arith, o k); why = y; marks = marked_same (λ k. omega arith) g }
 
@@ -118,9 +118,9 @@ goes (suc n) m c l met small b o g u = go (turn m l met) (goes n m)
     go : Turn m l met
         → ((d : Link → ℕ) (k : Link) (s : List Bool) → length m.bytes ≤ 131072 → k.0 < 2 ^ 20 → ((x : Link) → d x ≤ 1) → Marked m s d → unmet s < n → Goes m d k (list_walk n m k s))
         → Goes m c l (list_walk (suc n) m l met)
-    go (ends e) r = rw (walk_whole n m l met e) (goes_here m c l met Whole o g e)
-    go (outside z p) r = rw (walk_outside n m l met z p) (goes_here m c l met LinkOutside o g (z, p))
-    go (again at z p t) r = rw (walk_again n m l met z at p t) (goes_here m c l met MetAgain o g (z, at, p, omega (arith, g.yes_met l at b p t)))
+    go (ends e) r = rw (walk_whole n m l met e) (goes_here m c l met (Ok tt) o g e)
+    go (outside z p) r = rw (walk_outside n m l met z p) (goes_here m c l met (Err LinkNone) o g (z, p))
+    go (again at z p t) r = rw (walk_again n m l met z at p t) (goes_here m c l met (Err MetAgain) o g (z, at, p, omega (arith, g.yes_met l at b p t)))
     go (onward at z p t) r =
         rw (walk_on n m l met z at p t)
         (goes_more m c l at z p (list_walk n m (link_of (word_at m.bytes at)) (set met (at / 64) true))
@@ -133,36 +133,36 @@ goes (suc n) m c l met small b o g u = go (turn m l met) (goes n m)
         fresh k = ⊎_elim (λ s. rw s (omega (arith, one_self l, g.not_met l at b p t))) (λ d. omega (arith, one_other k l d, o k)) (same? k l)
 
 -- ---- in the words of specs/Lists.antt
-why_of : (m : Memory) (before met : List Link) (r : Link) (e : ListEnd) → why_at m (λ k. count k before + count k met) r e → Why m before met r e
+why_of : (m : Memory) (before met : List Link) (r : Link) (e : Result ⊤ ListFault) → why_at m (λ k. count k before + count k met) r e → Why m before met r e
 unfolding why_at
-why_of m before met r Whole w = w
-why_of m before met r LinkOutside w = w
-why_of m before met r MetAgain w = w
+why_of m before met r (Ok tt) w = w
+why_of m before met r (Err LinkNone) w = w
+why_of m before met r (Err MetAgain) w = w
 
-of_why : (m : Memory) (before met : List Link) (r : Link) (e : ListEnd) → Why m before met r e → why_at m (λ k. count k before + count k met) r e
+of_why : (m : Memory) (before met : List Link) (r : Link) (e : Result ⊤ ListFault) → Why m before met r e → why_at m (λ k. count k before + count k met) r e
 unfolding why_at
-of_why m before met r Whole w = w
-of_why m before met r LinkOutside w = w
-of_why m before met r MetAgain w = w
+of_why m before met r (Ok tt) w = w
+of_why m before met r (Err LinkNone) w = w
+of_why m before met r (Err MetAgain) w = w
 
-comes_of : (m : Memory) (before : List Link) (l : Link) (w : Walked) (e : ListEnd) → w.end ≡ e → Goes m (λ k. count k before) l w → Comes m before l e
+comes_of : (m : Memory) (before : List Link) (l : Link) (w : Walked) (e : Result ⊤ ListFault) → w.end ≡ e → Goes m (λ k. count k before) l w → Comes m before l e
 comes_of m before l w e q g =
     record { met = g.met; last = g.last; leads = g.leads; first = g.first; why = why_of m before g.met g.last e (rw q at g.why) }
 
 -- ---- a list comes to one thing alone
 -- a link at which a walk ends is not one that a walk goes on from
-stuck : (m : Memory) (c : Link → ℕ) (r : Link) (e : ListEnd) (at : ℕ) → why_at m c r e → (r.0 ≡ 0 → ⊥) → place_of m r ≡ At at → c r ≡ 0 → ⊥
+stuck : (m : Memory) (c : Link → ℕ) (r : Link) (e : Result ⊤ ListFault) (at : ℕ) → why_at m c r e → (r.0 ≡ 0 → ⊥) → place_of m r ≡ Some at → c r ≡ 0 → ⊥
 unfolding why_at
-stuck m c r Whole at w z p n = z w
-stuck m c r LinkOutside at w z p n = never_at (sym w.1 ∙ p)
-stuck m c r MetAgain at (y, bt, q, k) z p n = omega arith
+stuck m c r (Ok tt) at w z p n = z w
+stuck m c r (Err LinkNone) at w z p n = never_at (sym w.1 ∙ p)
+stuck m c r (Err MetAgain) at (y, bt, q, k) z p n = omega arith
 
 -- the same links lead to the same end
 pub record Same (ls ks : List Link) (r s : Link) : Type 0 where
   pub links : ls ≡ ks
   pub last : r ≡ s
 
-unique : (m : Memory) (c : Link → ℕ) (l : Link) (ls ks : List Link) (r s : Link) (e f : ListEnd) → Leads m l ls r → Leads m l ks s
+unique : (m : Memory) (c : Link → ℕ) (l : Link) (ls ks : List Link) (r s : Link) (e f : Result ⊤ ListFault) → Leads m l ls r → Leads m l ks s
     → ((k : Link) → c k + count k ls ≤ 1) → ((k : Link) → c k + count k ks ≤ 1) → why_at m (λ k. c k + count k ls) r e → why_at m (λ k. c k + count k ks) s f → Same ls ks r s
 unique m c l [] [] r s e f p q o u x y = record { links = refl; last = sym p ∙ q }
 unique m c l [] (k ∷ ks) r s e f p (h, z, at, i, t) o u x y =
@@ -180,20 +180,20 @@ unique m c l (j ∷ js) (k ∷ ks) r s e f (h, z, at, i, t) (h', z', bt, i', t')
     (why_same m s f (λ v. (let n : one v j ≡ one v k = rw jk in omega arith)) y) in
     record { links = rw (jk, g.links); last = g.last }
 
-ends_alike : (m : Memory) (c d : Link → ℕ) (r : Link) (e f : ListEnd) → ((k : Link) → c k ≡ d k) → why_at m c r e → why_at m d r f → e ≡ f
+ends_alike : (m : Memory) (c d : Link → ℕ) (r : Link) (e f : Result ⊤ ListFault) → ((k : Link) → c k ≡ d k) → why_at m c r e → why_at m d r f → e ≡ f
 unfolding why_at
-ends_alike m c d r Whole Whole h x y = refl
-ends_alike m c d r Whole LinkOutside h x y = absurd (y.0 x)
-ends_alike m c d r Whole MetAgain h x y = absurd (y.0 x)
-ends_alike m c d r LinkOutside Whole h x y = absurd (x.0 y)
-ends_alike m c d r LinkOutside LinkOutside h x y = refl
-ends_alike m c d r LinkOutside MetAgain h x (z, at, p, k) = absurd (never_at (sym x.1 ∙ p))
-ends_alike m c d r MetAgain Whole h x y = absurd (x.0 y)
-ends_alike m c d r MetAgain LinkOutside h (z, at, p, k) y = absurd (never_at (sym y.1 ∙ p))
-ends_alike m c d r MetAgain MetAgain h x y = refl
+ends_alike m c d r (Ok tt) (Ok tt) h x y = refl
+ends_alike m c d r (Ok tt) (Err LinkNone) h x y = absurd (y.0 x)
+ends_alike m c d r (Ok tt) (Err MetAgain) h x y = absurd (y.0 x)
+ends_alike m c d r (Err LinkNone) (Ok tt) h x y = absurd (x.0 y)
+ends_alike m c d r (Err LinkNone) (Err LinkNone) h x y = refl
+ends_alike m c d r (Err LinkNone) (Err MetAgain) h x (z, at, p, k) = absurd (never_at (sym x.1 ∙ p))
+ends_alike m c d r (Err MetAgain) (Ok tt) h x y = absurd (x.0 y)
+ends_alike m c d r (Err MetAgain) (Err LinkNone) h (z, at, p, k) y = absurd (never_at (sym y.1 ∙ p))
+ends_alike m c d r (Err MetAgain) (Err MetAgain) h x y = refl
 
 -- two accounts of a list agree
-module _ (m : Memory) (before after : List Link) (alike : before ≡ after) (l : Link) (e f : ListEnd) (g : Comes m before l e) (h : Comes m after l f) where
+module _ (m : Memory) (before after : List Link) (alike : before ≡ after) (l : Link) (e f : Result ⊤ ListFault) (g : Comes m before l e) (h : Comes m after l f) where
   both : Same g.met h.met g.last h.last
   both =
       unique m (λ k. count k before) l g.met h.met g.last h.last e f g.leads h.leads g.first (λ k. rw alike (h.first k))
@@ -223,14 +223,14 @@ module _ (m : Memory) (small : length m.bytes ≤ 131072) (fcx pcxi : ℕ) where
   used_goes : (ls : List Link) → ((k : Link) → count k ls ≤ 1) → Marked m free_walk.met (λ k. count k ls) → Goes m (λ k. count k ls) (link_of pcxi) (list_walk 2049 m (link_of pcxi) free_walk.met)
   used_goes ls o g = goes 2049 m (λ k. count k ls) (link_of pcxi) free_walk.met small (link_lt pcxi) o g (omega (arith, unmet_le free_walk.met, g.many))
 
-  lists_by : (e : ListEnd) → free_walk.end ≡ e → Goes m (λ k. 0) (link_of fcx) free_walk → ListsCome m fcx pcxi (then_used m pcxi e free_walk.met)
+  lists_by : (e : Result ⊤ ListFault) → free_walk.end ≡ e → Goes m (λ k. 0) (link_of fcx) free_walk → ListsCome m fcx pcxi (then_used m pcxi e free_walk.met)
   unfolding comes_of
-  lists_by Whole q g =
-      at_used (comes_of m [] (link_of fcx) free_walk Whole q g)
-      (comes_of m g.met (link_of pcxi) (list_walk 2049 m (link_of pcxi) free_walk.met) (then_used m pcxi Whole free_walk.met) refl
+  lists_by (Ok tt) q g =
+      at_used (comes_of m [] (link_of fcx) free_walk (Ok tt) q g)
+      (comes_of m g.met (link_of pcxi) (list_walk 2049 m (link_of pcxi) free_walk.met) (then_used m pcxi (Ok tt) free_walk.met) refl
       (used_goes g.met (λ k. omega (arith, g.first k)) (marked_same (λ k. omega arith) g.marks)))
-  lists_by LinkOutside q g = at_free (λ z. (let n : ◌≡◌ {A = ℕ} 0 1 = cc in omega arith)) (comes_of m [] (link_of fcx) free_walk LinkOutside q g)
-  lists_by MetAgain q g = at_free (λ z. (let n : ◌≡◌ {A = ℕ} 0 1 = cc in omega arith)) (comes_of m [] (link_of fcx) free_walk MetAgain q g)
+  lists_by (Err LinkNone) q g = at_free (λ z. (let n : ◌≡◌ {A = ℕ} 0 1 = cc in omega arith)) (comes_of m [] (link_of fcx) free_walk (Err LinkNone) q g)
+  lists_by (Err MetAgain) q g = at_free (λ z. (let n : ◌≡◌ {A = ℕ} 0 1 = cc in omega arith)) (comes_of m [] (link_of fcx) free_walk (Err MetAgain) q g)
 
   -- the check's answer is what the lists come to
   pub lists_come : ListsCome m fcx pcxi (lists_of m fcx pcxi)
@@ -238,19 +238,19 @@ module _ (m : Memory) (small : length m.bytes ≤ 131072) (fcx pcxi : ℕ) where
   lists_come = lists_by free_walk.end refl free_goes
 
   -- and they come to nothing else
-  pub lists_only : (e f : ListEnd) → ListsCome m fcx pcxi e → ListsCome m fcx pcxi f → e ≡ f
+  pub lists_only : (e f : Result ⊤ ListFault) → ListsCome m fcx pcxi e → ListsCome m fcx pcxi f → e ≡ f
   lists_only e f (at_free d g) (at_free d' h) = comes_alike m [] [] refl (link_of fcx) e f g h
-  lists_only e f (at_free d g) (at_used h i) = absurd (d (comes_alike m [] [] refl (link_of fcx) e Whole g h))
-  lists_only e f (at_used g i) (at_free d h) = absurd (d (comes_alike m [] [] refl (link_of fcx) f Whole h g))
+  lists_only e f (at_free d g) (at_used h i) = absurd (d (comes_alike m [] [] refl (link_of fcx) e (Ok tt) g h))
+  lists_only e f (at_used g i) (at_free d h) = absurd (d (comes_alike m [] [] refl (link_of fcx) f (Ok tt) h g))
   lists_only e f (at_used g i) (at_used h j) =
-      comes_alike m g.met h.met (comes_links m [] [] refl (link_of fcx) Whole Whole g h) (link_of pcxi) e f i j
+      comes_alike m g.met h.met (comes_links m [] [] refl (link_of fcx) (Ok tt) (Ok tt) g h) (link_of pcxi) e f i j
 
   -- so it is given exactly where they come to it
-  pub lists_exactly : (r : ListEnd) → r ≡ lists_of m fcx pcxi → (r ≡ lists_of m fcx pcxi) × Exactly (ListsCome m fcx pcxi) r
+  pub lists_exactly : (r : Result ⊤ ListFault) → r ≡ lists_of m fcx pcxi → (r ≡ lists_of m fcx pcxi) × Exactly (ListsCome m fcx pcxi) r
   lists_exactly = exactly (ListsCome m fcx pcxi) (lists_of m fcx pcxi) lists_come (λ x p. lists_only x (lists_of m fcx pcxi) p lists_come)
 
   -- whole lists are sound ones: rules 5 and 6 hold
-  pub sound_of : ListsCome m fcx pcxi Whole → Sound m fcx pcxi
+  pub sound_of : ListsCome m fcx pcxi (Ok tt) → Sound m fcx pcxi
   sound_of (at_free d g) = absurd (d refl)
   sound_of (at_used g h) =
       record {
@@ -261,7 +261,7 @@ module _ (m : Memory) (small : length m.bytes ≤ 131072) (fcx pcxi : ℕ) where
         once = h.first;
       }
 
-  pub of_sound : Sound m fcx pcxi → ListsCome m fcx pcxi Whole
+  pub of_sound : Sound m fcx pcxi → ListsCome m fcx pcxi (Ok tt)
   of_sound s =
       at_used
       (record { met = s.free; last = s.free_linked.0; leads = s.free_linked.1; first = λ k. omega (arith, s.once k); why = s.free_linked.2 })

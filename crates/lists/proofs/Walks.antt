@@ -12,25 +12,25 @@ use Rattle.fields.specs.Link.{link_of}
 use Rattle.areas.specs.Place.{place_of}
 use Rattle.lists.specs.Walk.{walked, list_walk}
 use Rattle.fields.specs.declared.link.Link.{Link}
-use Rattle.areas.specs.declared.link.Place.TheVariants.{At, Outside}
-use Rattle.lists.specs.declared.ListEnd.TheVariants.{Whole, LinkOutside, MetAgain}
+use Rattle.std.specs.Prelude.{Err, None, Ok, Some}
+use Rattle.lists.specs.declared.ListFault.TheVariants.{LinkOutside, MetAgain}
 
 module _ (n : ℕ) (m : Memory) (l : Link) (met : List Bool) where
-  pub walk_over : list_walk 0 m l met ≡ walked MetAgain met
+  pub walk_over : list_walk 0 m l met ≡ walked (Err MetAgain) met
   unfolding list_walk
   walk_over = refl
 
-  pub walk_whole : l.0 ≡ 0 → list_walk (suc n) m l met ≡ walked Whole met
+  pub walk_whole : l.0 ≡ 0 → list_walk (suc n) m l met ≡ walked (Ok tt) met
   unfolding list_walk
   walk_whole h = simp (eq-eqb _ _ h)
 
   module _ (z : l.0 ≡ 0 → ⊥) where
-    pub walk_outside : place_of m l ≡ Outside → list_walk (suc n) m l met ≡ walked LinkOutside met
+    pub walk_outside : place_of m l ≡ None → list_walk (suc n) m l met ≡ walked (Err LinkNone) met
     unfolding list_walk
     walk_outside e = simp (ne_eqb _ _ z, e)
 
-    module _ (at : ℕ) (e : place_of m l ≡ At at) where
-      pub walk_again : get_or met (at / 64) false ≡ true → list_walk (suc n) m l met ≡ walked MetAgain met
+    module _ (at : ℕ) (e : place_of m l ≡ Some at) where
+      pub walk_again : get_or met (at / 64) false ≡ true → list_walk (suc n) m l met ≡ walked (Err MetAgain) met
       unfolding list_walk
       walk_again t = simp (ne_eqb _ _ z, e, t)
 

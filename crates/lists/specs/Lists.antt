@@ -1,19 +1,18 @@
 -- The lists in memory, as plain statements. proofs/Lists.antt shows that the check answers exactly these.
-use Rattle.std.specs.Prelude.{ℕ, ◌+◌, ◌≤◌, ◌≡◌, cond, List, [], ◌∷◌, eqb}
+use Rattle.std.specs.Prelude.{ℕ, ◌+◌, ◌≤◌, ◌≡◌, cond, List, [], ◌∷◌, eqb, Err, None, Ok, Result, Some, ⊤}
 use Rattle.memory.specs.Memory.{Memory}
 use Rattle.memory.specs.Word.{word_at}
 use Rattle.fields.specs.Link.{link_of}
 use Rattle.areas.specs.Place.{place_of}
 use Rattle.fields.specs.declared.link.Link.{Link}
-use Rattle.areas.specs.declared.link.Place.TheVariants.{At, Outside}
-use Rattle.lists.specs.declared.ListEnd.{ListEnd}
-use Rattle.lists.specs.declared.ListEnd.TheVariants.{Whole, LinkOutside, MetAgain}
+use Rattle.lists.specs.declared.ListFault.{ListFault}
+use Rattle.lists.specs.declared.ListFault.TheVariants.{LinkOutside, MetAgain}
 
 -- from the link l the links ls are met, in order, and then the link r: one of the windows has each of ls, and the first word of its area has the link after it
 abbrev pub Leads : Memory → Link → List Link → Link → Type 0
 Leads m l [] r = l ≡ r
 Leads m l (k ∷ ks) r =
-    (l ≡ k) × (l.0 ≡ 0 → ⊥) × (at : ℕ) × (place_of m l ≡ At at) × Leads m (link_of (word_at m.bytes at)) ks r
+    (l ≡ k) × (l.0 ≡ 0 → ⊥) × (at : ℕ) × (place_of m l ≡ Some at) × Leads m (link_of (word_at m.bytes at)) ks r
 
 -- how often a link stands in a list
 unfoldable pub one : Link → Link → ℕ
@@ -32,13 +31,13 @@ pub record Sound (m : Memory) (fcx pcxi : ℕ) : Type 0 where
   pub once : (l : Link) → count l free + count l used ≤ 1
 
 -- why a walk ends at the link r, after the links of `before` and `met`
-abbrev pub Why : Memory → List Link → List Link → Link → ListEnd → Type 0
-Why m before met r Whole = r.0 ≡ 0
-Why m before met r LinkOutside = (r.0 ≡ 0 → ⊥) × (place_of m r ≡ Outside)
-Why m before met r MetAgain = (r.0 ≡ 0 → ⊥) × (at : ℕ) × (place_of m r ≡ At at) × (1 ≤ count r before + count r met)
+abbrev pub Why : Memory → List Link → List Link → Link → Result ⊤ ListFault → Type 0
+Why m before met r (Ok tt) = r.0 ≡ 0
+Why m before met r (Err LinkNone) = (r.0 ≡ 0 → ⊥) × (place_of m r ≡ None)
+Why m before met r (Err MetAgain) = (r.0 ≡ 0 → ⊥) × (at : ℕ) × (place_of m r ≡ Some at) × (1 ≤ count r before + count r met)
 
 -- what the list from the link l comes to, with the areas of `before` met already: all areas up to there are met for the first time, so this is the first link at fault
-pub record Comes (m : Memory) (before : List Link) (l : Link) (e : ListEnd) : Type 0 where
+pub record Comes (m : Memory) (before : List Link) (l : Link) (e : Result ⊤ ListFault) : Type 0 where
   pub met : List Link
   pub last : Link
   pub leads : Leads m l met last
@@ -46,6 +45,6 @@ pub record Comes (m : Memory) (before : List Link) (l : Link) (e : ListEnd) : Ty
   pub why : Why m before met last e
 
 -- what the two lists come to: a fault of the free one, or, where that is whole, what the used one comes to after it
-pub data ListsCome (m : Memory) (fcx pcxi : ℕ) (e : ListEnd) : Type 0 where
-  at_free : (e ≡ Whole → ⊥) → Comes m [] (link_of fcx) e → ListsCome m fcx pcxi e
-  at_used : (free : Comes m [] (link_of fcx) Whole) → Comes m free.met (link_of pcxi) e → ListsCome m fcx pcxi e
+pub data ListsCome (m : Memory) (fcx pcxi : ℕ) (e : Result ⊤ ListFault) : Type 0 where
+  at_free : (e ≡ (Ok tt) → ⊥) → Comes m [] (link_of fcx) e → ListsCome m fcx pcxi e
+  at_used : (free : Comes m [] (link_of fcx) (Ok tt)) → Comes m free.met (link_of pcxi) e → ListsCome m fcx pcxi e

@@ -32,23 +32,23 @@ fn walk<'a>(
     window2: &'a [u8],
     head: Link,
     met: &mut [bool; 2048],
-) -> ListEnd
+) -> Result<(), ListFault>
     requires { (length (window.now ++ window2.now) ≤ 131072) × (length met.old ≡ 2048) }
     ensures { walked result met.new ≡ list_walk 2049 (lent base window.now base2 window2.now) head met.old }
 {
     let mut l = head;
     while l.0 != 0 {
-        let Place::At(at) = locate(base, window, base2, window2, l) else {
-            return ListEnd::LinkOutside;
+        let Some(at) = locate(base, window, base2, window2, l) else {
+            return Err(ListFault::LinkOutside);
         };
         let k = at / 64;
         if met[k] {
-            return ListEnd::MetAgain;
+            return Err(ListFault::MetAgain);
         }
         met[k] = true;
         l = next_link(base, window, base2, window2, l);
     }
-    ListEnd::Whole
+    Ok(())
 }
 
 // The free list from FCX, then the used one from PCXI.
@@ -59,15 +59,15 @@ pub fn check<'a>(
     window2: &'a [u8],
     fcx: u32,
     pcxi: u32,
-) -> ListEnd
+) -> Result<(), ListFault>
     requires { length (window.now ++ window2.now) ≤ 131072 }
     ensures { (result ≡ lists_of (lent base window.now base2 window2.now) fcx pcxi) × Exactly (ListsCome (lent base window.now base2 window2.now) fcx pcxi) result }
 {
     let mut met = [false; 2048];
     let free = walk(base, window, base2, window2, link_of(fcx), &mut met);
     match free {
-        ListEnd::Whole => walk(base, window, base2, window2, link_of(pcxi), &mut met),
-        ListEnd::LinkOutside => free,
-        ListEnd::MetAgain => free,
+        Ok(()) => walk(base, window, base2, window2, link_of(pcxi), &mut met),
+        Err(ListFault::LinkOutside) => free,
+        Err(ListFault::MetAgain) => free,
     }
 }

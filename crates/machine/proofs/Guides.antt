@@ -6,8 +6,8 @@ use Rattle.image.specs.Marks.{long_only, MarksHold, Guides}
 use Rattle.image.specs.declared.marks.Guide.{Guide}
 use Rattle.image.proofs.Marking.{no_marks}
 use Rattle.inputs.specs.Checks.{long_told}
-use Rattle.inputs.specs.declared.verdict.Verdict.{Verdict}
-use Rattle.inputs.specs.declared.verdict.Verdict.TheVariants.{Accepted}
+use Rattle.std.specs.Prelude.{Ok, Result, ⊤}
+use Rattle.inputs.specs.declared.verdict.Refusal.{Refusal}
 
 -- whether it has short forms, and no marks
 pub unmarked : (img : List ℕ) (g : Guide) → (g.long ≡ true → long_only img ≡ true) → Guides img g (replicate 1 0)
@@ -18,5 +18,5 @@ pub marked : (img marks : List ℕ) (g : Guide) → g.long ≡ false → MarksHo
 marked img marks g f h = record { all_long = λ e. absurd (never (rw f at (sym e))); marks_hold = h }
 
 -- what the check of an accepted image told
-pub told_long : (img : List ℕ) (v : Verdict) (long : Bool) → long ≡ long_told img v → v ≡ Accepted → long ≡ true → long_only img ≡ true
+pub told_long : (img : List ℕ) (v : Result ⊤ Refusal) (long : Bool) → long ≡ long_told img v → v ≡ (Ok tt) → long ≡ true → long_only img ≡ true
 told_long img v long e a h = rw (a, h) at (sym e)

@@ -9,7 +9,6 @@ use Rattle.registers.specs.declared.Registers.{Registers}
 use Rattle.events.specs.declared.event.Event.{Event}
 use Rattle.events.specs.declared.event.Event.TheVariants as event
 use Rattle.events.specs.declared.event.Stop.{Stop}
-use Rattle.events.specs.declared.event.Ending.TheVariants as ending
 use Rattle.protection.specs.declared.range.Range.{Range}
 use Rattle.interrupts.specs.Sources.{best, best_of, takes, cleared_at}
 use Rattle.interrupts.specs.declared.Best.{Best}
@@ -22,6 +21,7 @@ use Rattle.machine.specs.Inner.{foremost_of, Ready, left_by, Paces}
 use Rattle.machine.specs.declared.answer.Outcome.TheVariants.{Made, Stopped}
 use Rattle.machine.specs.declared.instructions.Paced.{Paced}
 use Rattle.machine.proofs.Turns.{ready_next, run_made, run_stopped, run_end, off}
+use Rattle.std.specs.Prelude.{Err, Ok}
 
 -- ---- the source that n steps begin with, by cases
 module _ (n icr : ℕ) (xs : List ℕ) where
@@ -102,7 +102,7 @@ module _ (n : ℕ) (img : List ℕ) (rs : List Range) (r₀ : Registers) (xs₀ 
       one : v ≡ one_of img r xs rs m
       one = is ∙ ap (λ (b : Best). enter_of (cause.Interrupt b.source b.level) r m) (is_best p) ∙ taken_one img r rs m xs taken
 
-      pub turn_interrupt : (e : Event) → v.ending ≡ ending.Made e → (ys : List ℕ) → ys ≡ cleared_at xs best.source → (best' : Best) → best' ≡ best_of ys → Turn (left - 1) e v.registers ys v.memory best'
+      pub turn_interrupt : (e : Event) → v.ending ≡ Ok e → (ys : List ℕ) → ys ≡ cleared_at xs best.source → (best' : Best) → best' ≡ best_of ys → Turn (left - 1) e v.registers ys v.memory best'
       turn_interrupt e f ys y best' b =
           let l = t.most in
           let z : n - left + 1 ≡ n - (left - 1) = omega arith in
@@ -114,7 +114,7 @@ module _ (n : ℕ) (img : List ℕ) (rs : List Range) (r₀ : Registers) (xs₀ 
             run = rw (← z, q) (run_made t.ready xs rs v one (left - 1) (n - left) (Made last) e f) ∙ whole;
           }
 
-      pub stop_interrupt : (s : Stop) → v.ending ≡ ending.Stopped s → ran (Stopped s) (n - left) v.registers xs v.memory ≡ run_from n img rs (Made event.Instruction) 0 r₀ xs₀ m₀
+      pub stop_interrupt : (s : Stop) → v.ending ≡ Err s → ran (Stopped s) (n - left) v.registers xs v.memory ≡ run_from n img rs (Made event.Instruction) 0 r₀ xs₀ m₀
       stop_interrupt s f = run_stopped t.ready xs rs v one (left - 1) (n - left) (Made last) s f ∙ whole
 
     -- ---- instructions
@@ -125,7 +125,7 @@ module _ (n : ℕ) (img : List ℕ) (rs : List Range) (r₀ : Registers) (xs₀ 
       rest : left_by x.ending x.left img rs (n - x.left) q xs w ≡ run_from n img rs (Made event.Instruction) 0 r₀ xs₀ m₀
       rest = rw made at (a.run xs (not_taken p) last (n - left)) ∙ t.run
 
-      pub turn_instructions : (e : Event) → x.ending ≡ ending.Made e → Turn x.left e q xs w best
+      pub turn_instructions : (e : Event) → x.ending ≡ Ok e → Turn x.left e q xs w best
       turn_instructions e f =
           let l = t.most in
           let k = a.some e f in
@@ -136,7 +136,7 @@ module _ (n : ℕ) (img : List ℕ) (rs : List Range) (r₀ : Registers) (xs₀ 
             run = rw f at rest;
           }
 
-      pub stop_instructions : (s : Stop) → x.ending ≡ ending.Stopped s → ran (Stopped s) (n - x.left) q xs w ≡ run_from n img rs (Made event.Instruction) 0 r₀ xs₀ m₀
+      pub stop_instructions : (s : Stop) → x.ending ≡ Err s → ran (Stopped s) (n - x.left) q xs w ≡ run_from n img rs (Made event.Instruction) 0 r₀ xs₀ m₀
       stop_instructions s f = rw f at rest
 
   pub turn_end : {left : ℕ} {last : Event} {r : Registers} {xs : List ℕ} {m : Memory} {best : Best} → Turn left last r xs m best → left ≡ 0 → ran (Made last) n r xs m ≡ run_from n img rs (Made event.Instruction) 0 r₀ xs₀ m₀

@@ -6,13 +6,9 @@ use Rattle.registers.specs.Registers.{pc}
 use Rattle.registers.specs.declared.Registers.{Registers}
 use Rattle.events.specs.declared.event.Event.{Event}
 use Rattle.events.specs.declared.event.Event.TheVariants as event
-use Rattle.events.specs.declared.event.Ending.{Ending}
-use Rattle.events.specs.declared.event.Ending.TheVariants as ending
 use Rattle.protection.specs.declared.range.Range.{Range}
 use Rattle.inputs.specs.Checks.{step_verdict}
 use Rattle.inputs.specs.declared.verdict.Refusal.{Refusal}
-use Rattle.inputs.specs.declared.verdict.Verdict.{Verdict}
-use Rattle.inputs.specs.declared.verdict.Verdict.TheVariants as verdict
 use Rattle.decisions.specs.Decision.{one_of, requests_of}
 use Rattle.decisions.specs.Valid.{Valid, Bytes}
 use Rattle.permits.specs.declared.Permits.{Permits}
@@ -24,6 +20,8 @@ use Rattle.machine.specs.declared.answer.Outcome.{Outcome}
 use Rattle.machine.specs.declared.answer.Outcome.TheVariants.{Made, Stopped, Refused}
 use Rattle.machine.proofs.Turns.{ready_next, run_made, run_stopped}
 use Rattle.machine.proofs.Singles.{run_refused, run_accepted, refused_keeps_lem, not_refused}
+use Rattle.std.specs.Prelude.{Err, Ok, Result, ⊤}
+use Rattle.events.specs.declared.event.Stop.{Stop}
 
 -- registers are words, with PC even, and bytes are bytes
 pub record InBounds (r : Registers) (m : Memory) : Type 0 where
@@ -36,16 +34,16 @@ module _ {img : List ℕ} (image : Bytes img) (rs : List Range) where
   unfolding step_of
   step_bounds {r} {m} h xs = by_verdict (step_verdict m img (pc r))
     where
-      by_ending : (ys : List ℕ) (p : Permits) (e : Ending) (q : Registers) (n : Memory) → InBounds q n → (let s = accepted_by r xs m ys p e q n in InBounds s.registers s.memory)
-      by_ending ys p (ending.Made e) q n k = k
-      by_ending ys p (ending.Stopped s) q n k = h
+      by_ending : (ys : List ℕ) (p : Permits) (e : Result Event Stop) (q : Registers) (n : Memory) → InBounds q n → (let s = accepted_by r xs m ys p e q n in InBounds s.registers s.memory)
+      by_ending ys p (Ok e) q n k = k
+      by_ending ys p (Err s) q n k = h
 
-      by_verdict : (v : Verdict) → (let s = stepped_by img r xs rs m v in InBounds s.registers s.memory)
-      by_verdict verdict.Accepted =
+      by_verdict : (v : Result ⊤ Refusal) → (let s = stepped_by img r xs rs m v in InBounds s.registers s.memory)
+      by_verdict (Ok tt) =
           let v = one_of img r xs rs m in
           let k = one_kept h.valid m h.bytes image xs rs in
           by_ending _ _ v.ending v.registers v.memory (record { valid = k.valid; bytes = k.bytes })
-      by_verdict (verdict.Refused x) = h
+      by_verdict (Err x) = h
 
   -- ---- a run
   onward_bounds : (made : ℕ) (o : Outcome) (s : StepOf) (next : RunOf) → InBounds s.registers s.memory → InBounds next.registers next.memory
@@ -66,28 +64,28 @@ module _ {img : List ℕ} (image : Bytes img) (rs : List Range) where
   unfolding run_of
   run_bounds n {r} {m} h xs = by (step_verdict m img (pc r))
     where
-      by : (v : Verdict) → (let w = run_by n img r xs rs m v in InBounds w.registers w.memory)
-      by verdict.Accepted = from_bounds n (Made event.Instruction) 0 h xs
-      by (verdict.Refused x) = h
+      by : (v : Result ⊤ Refusal) → (let w = run_by n img r xs rs m v in InBounds w.registers w.memory)
+      by (Ok tt) = from_bounds n (Made event.Instruction) 0 h xs
+      by (Err x) = h
 
   -- ---- no refusal after an accepted start
   from_accepted : (n : ℕ) (last : Event) (made : ℕ) {r : Registers} {m : Memory} → Ready img r m → (xs : List ℕ) (x : Refusal) → (run_from n img rs (Made last) made r xs m).outcome ≡ Refused x → ⊥
   unfolding run_from
-  from_accepted zero last made y xs x p = not_refused (ending.Made last) refl x p
+  from_accepted zero last made y xs x p = not_refused (Ok last) refl x p
   from_accepted (suc n) last made {r} {m} y xs x p =
       let v = one_of img r xs rs m in
       by v.ending refl (λ e. from_accepted n e (made + 1) (ready_next y xs rs v refl) (requests_of img r xs rs) x)
     where
-      by : (d : Ending) → (one_of img r xs rs m).ending ≡ d
+      by : (d : Result Event Stop) → (one_of img r xs rs m).ending ≡ d
           → ((e : Event) → (run_from n img rs (Made e) (made + 1) (one_of img r xs rs m).registers (requests_of img r xs rs) (one_of img r xs rs m).memory).outcome ≡ Refused x → ⊥) → ⊥
-      by (ending.Made e) g next = next e (ap (λ (w : RunOf). w.outcome) (run_made y xs rs (one_of img r xs rs m) refl n made (Made last) e g) ∙ p)
-      by (ending.Stopped s) g next = not_refused (ending.Stopped s) refl x (ap (λ (w : RunOf). w.outcome) (run_stopped y xs rs (one_of img r xs rs m) refl n made (Made last) s g) ∙ p)
+      by (Ok e) g next = next e (ap (λ (w : RunOf). w.outcome) (run_made y xs rs (one_of img r xs rs m) refl n made (Made last) e g) ∙ p)
+      by (Err s) g next = not_refused (Err s) refl x (ap (λ (w : RunOf). w.outcome) (run_stopped y xs rs (one_of img r xs rs m) refl n made (Made last) s g) ∙ p)
 
   pub run_refuses : (n : ℕ) {r : Registers} {m : Memory} → InBounds r m → (xs : List ℕ) → RefusedKeeps r xs m (run_of n img r xs rs m)
   run_refuses n {r} {m} h xs = by (step_verdict m img (pc r)) refl
     where
-      by : (v : Verdict) → step_verdict m img (pc r) ≡ v → RefusedKeeps r xs m (run_of n img r xs rs m)
-      by (verdict.Refused x) e = rw (run_refused img r xs rs m x e n) (refused_keeps_lem r xs m x)
-      by verdict.Accepted e =
+      by : (v : Result ⊤ Refusal) → step_verdict m img (pc r) ≡ v → RefusedKeeps r xs m (run_of n img r xs rs m)
+      by (Err x) e = rw (run_refused img r xs rs m x e n) (refused_keeps_lem r xs m x)
+      by (Ok tt) e =
           rw (run_accepted img r xs rs m n e)
           (λ x p. absurd (from_accepted n event.Instruction 0 (record { accepted = e; image = image; valid = h.valid; bytes = h.bytes }) xs x p))

@@ -7,18 +7,13 @@ use Rattle.registers.specs.Registers.{pc, icr}
 use Rattle.registers.specs.declared.Registers.{Registers}
 use Rattle.events.specs.declared.event.Event.{Event}
 use Rattle.events.specs.declared.event.Stop.{Stop}
-use Rattle.events.specs.declared.event.Ending.TheVariants as ending
 use Rattle.protection.specs.declared.range.Range.{Range}
 use Rattle.interrupts.specs.Sources.{takes}
 use Rattle.entries.specs.Entry.{MadeOf}
 use Rattle.image.specs.Records.{image_of, ImageHolds}
-use Rattle.image.specs.declared.records.ImageCheck.{ImageCheck}
-use Rattle.image.specs.declared.records.ImageCheck.TheVariants as image
 use Rattle.inputs.specs.Checks.{window_verdict, image_said, image_verdict, pc_verdict, and_then, step_verdict}
 use Rattle.inputs.proofs.Verdicts.{step_says}
 use Rattle.inputs.specs.declared.verdict.Refusal.{Refusal}
-use Rattle.inputs.specs.declared.verdict.Verdict.{Verdict}
-use Rattle.inputs.specs.declared.verdict.Verdict.TheVariants.{Accepted, Refused}
 use Rattle.decisions.specs.Decision.{one_of, requests_of}
 use Rattle.decisions.proofs.Steps.{Kept, one_kept}
 use Rattle.permits.specs.Permits.{permits_of}
@@ -27,9 +22,12 @@ use Rattle.machine.specs.Run.{ran, run_from}
 use Rattle.machine.specs.Inner.{Ready}
 use Rattle.machine.specs.declared.answer.Outcome.{Outcome}
 use Rattle.machine.specs.declared.answer.Outcome.TheVariants.{Made, Stopped}
+use Rattle.std.specs.Prelude.{Err, Ok, Result, ⊤}
+use Rattle.image.specs.declared.table.ImageFault.{ImageFault}
+use Rattle.image.specs.declared.table.ImageFault.TheVariants.{Record, Table}
 
 -- ---- a step of an accepted machine
-pub accepted_step : (img : List ℕ) (r : Registers) (xs : List ℕ) (rs : List Range) (m : Memory) → step_verdict m img (pc r) ≡ Accepted → step_of img r xs rs m ≡ accepted_of img r xs rs m
+pub accepted_step : (img : List ℕ) (r : Registers) (xs : List ℕ) (rs : List Range) (m : Memory) → step_verdict m img (pc r) ≡ (Ok tt) → step_of img r xs rs m ≡ accepted_of img r xs rs m
 unfolding step_of
 accepted_step img r xs rs m e = rw e
 
@@ -51,18 +49,18 @@ module _ {img : List ℕ} {r : Registers} {m : Memory} (y : Ready img r m) (xs :
         bytes = kept.bytes;
       }
 
-  step_made : (e : Event) → v.ending ≡ ending.Made e → step_of img r xs rs m ≡ stepped (Made e) v.registers (requests_of img r xs rs) v.memory (permits_of img r.a r.core xs rs)
+  step_made : (e : Event) → v.ending ≡ Ok e → step_of img r xs rs m ≡ stepped (Made e) v.registers (requests_of img r xs rs) v.memory (permits_of img r.a r.core xs rs)
   step_made e h = accepted_step img r xs rs m y.accepted ∙ rw (← is, h)
 
-  step_stopped : (s : Stop) → v.ending ≡ ending.Stopped s → step_of img r xs rs m ≡ stepped (Stopped s) v.registers xs v.memory (permits_of img r.a r.core xs rs)
+  step_stopped : (s : Stop) → v.ending ≡ Err s → step_of img r xs rs m ≡ stepped (Stopped s) v.registers xs v.memory (permits_of img r.a r.core xs rs)
   step_stopped s h = accepted_step img r xs rs m y.accepted ∙ rw (← is, h, (kept.leaves s h).0, (kept.leaves s h).1)
 
-  pub run_made : (left made : ℕ) (last : Outcome) (e : Event) → v.ending ≡ ending.Made e
+  pub run_made : (left made : ℕ) (last : Outcome) (e : Event) → v.ending ≡ Ok e
       → run_from left img rs (Made e) (made + 1) v.registers (requests_of img r xs rs) v.memory ≡ run_from (suc left) img rs last made r xs m
   unfolding run_from
   run_made left made last e g = rw (step_made e g)
 
-  pub run_stopped : (left made : ℕ) (last : Outcome) (s : Stop) → v.ending ≡ ending.Stopped s → ran (Stopped s) made v.registers xs v.memory ≡ run_from (suc left) img rs last made r xs m
+  pub run_stopped : (left made : ℕ) (last : Outcome) (s : Stop) → v.ending ≡ Err s → ran (Stopped s) made v.registers xs v.memory ≡ run_from (suc left) img rs last made r xs m
   unfolding run_from
   run_stopped left made last s g = rw (step_stopped s g)
 
@@ -82,22 +80,22 @@ unfolding takes
 off icr level e = rw e
 
 -- an accepted image holds
-never : {x : Refusal} → Refused x ≡ Accepted → ⊥
+never : {x : Refusal} → Err x ≡ (Ok tt) → ⊥
 never e = let z : ◌≡◌ {A = ℕ} 0 1 = cc in omega arith
 
-by_image : (c : ImageCheck) (v : Verdict) → and_then (image_said c) v ≡ Accepted → c ≡ image.Holds
-by_image image.Holds v e = refl
-by_image (image.Table p) v e = absurd (never e)
-by_image (image.Record k) v e = absurd (never e)
+by_image : (c : Result ⊤ ImageFault) (v : Result ⊤ Refusal) → and_then (image_said c) v ≡ (Ok tt) → c ≡ (Ok tt)
+by_image (Ok tt) v e = refl
+by_image (Err (Table p)) v e = absurd (never e)
+by_image (Err (Record k)) v e = absurd (never e)
 
-pub image_holds : (m : Memory) (img : List ℕ) (p : ℕ) → step_verdict m img p ≡ Accepted → ImageHolds img
+pub image_holds : (m : Memory) (img : List ℕ) (p : ℕ) → step_verdict m img p ≡ (Ok tt) → ImageHolds img
 unfolding step_verdict
 image_holds m img p e = by_window (window_verdict m) e
   where
-    by_window : (v : Verdict) → and_then v (and_then (image_verdict img) (pc_verdict p)) ≡ Accepted → ImageHolds img
-    by_window Accepted e = by_image (image_of img) (pc_verdict p) e
-    by_window (Refused x) e = absurd (never e)
+    by_window : (v : Result ⊤ Refusal) → and_then v (and_then (image_verdict img) (pc_verdict p)) ≡ (Ok tt) → ImageHolds img
+    by_window (Ok tt) e = by_image (image_of img) (pc_verdict p) e
+    by_window (Err x) e = absurd (never e)
 
 -- an accepted start has an even PC
-pub accepted_even : (m : Memory) (img : List ℕ) (p : ℕ) → step_verdict m img p ≡ Accepted → p % 2 ≡ 0
+pub accepted_even : (m : Memory) (img : List ℕ) (p : ℕ) → step_verdict m img p ≡ (Ok tt) → p % 2 ≡ 0
 accepted_even m img p e = (rw e at (step_says m img p)).even

@@ -4,19 +4,19 @@ use Rattle.std.proofs.Common.{◌≡◌, ℕ, zero, suc, ◌+◌, ◌≤◌, Lis
 use Rattle.memory.specs.Memory.{Memory}
 use Rattle.registers.specs.Registers.{pc}
 use Rattle.registers.specs.declared.Registers.{Registers}
-use Rattle.events.specs.declared.event.Ending.{Ending}
-use Rattle.events.specs.declared.event.Ending.TheVariants as ending
 use Rattle.events.specs.declared.event.Event.TheVariants as event
 use Rattle.protection.specs.declared.range.Range.{Range}
 use Rattle.inputs.specs.Checks.{step_verdict}
-use Rattle.inputs.specs.declared.verdict.Verdict.{Verdict}
-use Rattle.inputs.specs.declared.verdict.Verdict.TheVariants as verdict
 use Rattle.decisions.specs.Decision.{one_of}
 use Rattle.permits.specs.declared.Permits.{Permits}
 use Rattle.machine.specs.Step.{StepOf, accepted_by, stepped_by, step_of}
 use Rattle.machine.specs.Run.{RunOf, ran, onward, run_from, run_by, run_of}
 use Rattle.machine.specs.declared.answer.Outcome.{Outcome}
 use Rattle.machine.specs.declared.answer.Outcome.TheVariants.{Made, Stopped, Refused}
+use Rattle.std.specs.Prelude.{Err, Ok, Result, ⊤}
+use Rattle.events.specs.declared.event.Event.{Event}
+use Rattle.events.specs.declared.event.Stop.{Stop}
+use Rattle.inputs.specs.declared.verdict.Refusal.{Refusal}
 
 -- registers, requests and memory are these
 pub record Leaves (r : Registers) (xs : List ℕ) (m : Memory) (v : RunOf) : Type 0 where
@@ -45,13 +45,13 @@ module _ (img : List ℕ) (r : Registers) (xs : List ℕ) (rs : List Range) (m :
   Unmoved (Stopped x) s = Leaves r xs m (ran (Stopped x) 0 s.registers s.requests s.memory)
   Unmoved (Refused x) s = Leaves r xs m (ran (Refused x) 0 s.registers s.requests s.memory)
 
-  by_ending : (ys : List ℕ) (p : Permits) (e : Ending) (q : Registers) (w : Memory) → (let s = accepted_by r xs m ys p e q w in Unmoved s.outcome s)
-  by_ending ys p (ending.Made e) q w = tt
-  by_ending ys p (ending.Stopped s) q w = record { registers = refl; requests = refl; memory = refl }
+  by_ending : (ys : List ℕ) (p : Permits) (e : Result Event Stop) (q : Registers) (w : Memory) → (let s = accepted_by r xs m ys p e q w in Unmoved s.outcome s)
+  by_ending ys p (Ok e) q w = tt
+  by_ending ys p (Err s) q w = record { registers = refl; requests = refl; memory = refl }
 
-  by_verdict : (v : Verdict) → (let s = stepped_by img r xs rs m v in Unmoved s.outcome s)
-  by_verdict verdict.Accepted = let v = one_of img r xs rs m in by_ending _ _ v.ending v.registers v.memory
-  by_verdict (verdict.Refused x) = record { registers = refl; requests = refl; memory = refl }
+  by_verdict : (v : Result ⊤ Refusal) → (let s = stepped_by img r xs rs m v in Unmoved s.outcome s)
+  by_verdict (Ok tt) = let v = one_of img r xs rs m in by_ending _ _ v.ending v.registers v.memory
+  by_verdict (Err x) = record { registers = refl; requests = refl; memory = refl }
 
   pub unmoved : (let s = step_of img r xs rs m in Unmoved s.outcome s)
   unfolding step_of
@@ -71,6 +71,6 @@ module _ (img : List ℕ) (r : Registers) (xs : List ℕ) (rs : List Range) (m :
   unfolding run_of
   none_made n = by (step_verdict m img (pc r))
     where
-      by : (v : Verdict) → (run_by n img r xs rs m v).made ≡ 0 → Leaves r xs m (run_by n img r xs rs m v)
-      by verdict.Accepted z = from n z
-      by (verdict.Refused x) z = record { registers = refl; requests = refl; memory = refl }
+      by : (v : Result ⊤ Refusal) → (run_by n img r xs rs m v).made ≡ 0 → Leaves r xs m (run_by n img r xs rs m v)
+      by (Ok tt) z = from n z
+      by (Err x) z = record { registers = refl; requests = refl; memory = refl }

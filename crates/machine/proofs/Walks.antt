@@ -8,8 +8,6 @@ use Rattle.registers.specs.declared.Registers.{Registers}
 use Rattle.events.specs.declared.event.Event.{Event}
 use Rattle.events.specs.declared.event.Event.TheVariants as event
 use Rattle.events.specs.declared.event.Stop.{Stop}
-use Rattle.events.specs.declared.event.Ending.{Ending}
-use Rattle.events.specs.declared.event.Ending.TheVariants as ending
 use Rattle.protection.specs.declared.range.Range.{Range}
 use Rattle.interrupts.specs.Sources.{best_of, takes}
 use Rattle.image.proofs.Addresses.{after_none}
@@ -35,6 +33,7 @@ use Rattle.machine.specs.declared.answer.Outcome.TheVariants as outcome
 use Rattle.spans.specs.declared.Span.{Span}
 use Rattle.machine.proofs.Turns.{ready_next, run_made, run_stopped, run_last}
 use Rattle.spans.proofs.Spans.{in_span, span_steady, index_by, counted_long, next_begins, long_four}
+use Rattle.std.specs.Prelude.{Err, Ok, Result}
 
 module _ (n : ℕ) (img : List ℕ) (rs : List Range) (r₀ : Registers) (m₀ : Memory) where
   -- no interrupt is taken before the first step
@@ -73,7 +72,7 @@ module _ (n : ℕ) (img : List ℕ) (rs : List Range) (r₀ : Registers) (m₀ :
     before : left ≡ suc (left - 1)
     before = let h = t.some in omega arith
 
-    stopped : (s : Stop) → v.ending ≡ ending.Stopped s → Paces n img rs r₀ m₀ (paced (ending.Stopped s) left) v.registers v.memory
+    stopped : (s : Stop) → v.ending ≡ Err s → Paces n img rs r₀ m₀ (paced (Err s) left) v.registers v.memory
     stopped s e =
         record {
           most = t.most;
@@ -85,7 +84,7 @@ module _ (n : ℕ) (img : List ℕ) (rs : List Range) (r₀ : Registers) (m₀ :
         }
 
     -- a step made, and the run from there
-    onward : (f : Event) → v.ending ≡ ending.Made f → (xs : List ℕ) → Quiet xs → (last : Outcome) (k : ℕ)
+    onward : (f : Event) → v.ending ≡ Ok f → (xs : List ℕ) → Quiet xs → (last : Outcome) (k : ℕ)
         → run_from (left - 1) img rs (outcome.Made f) (k + (n - (left - 1))) v.registers xs v.memory ≡ run_from n img rs last k r₀ xs m₀
     onward f e xs q last k =
         let h = t.some in
@@ -94,7 +93,7 @@ module _ (n : ℕ) (img : List ℕ) (rs : List Range) (r₀ : Registers) (m₀ :
         let step = rw (requests xs q, z) at (run_made (t.ready xs q) xs rs v (one xs q) (left - 1) (k + (n - left)) last f e) in
         step ∙ subst (λ (l : ℕ). run_from l img rs last (k + (n - left)) r xs m ≡ run_from n img rs last k r₀ xs m₀) before (t.run xs q last last k)
 
-    made_one : (f : Event) → v.ending ≡ ending.Made f → Paces n img rs r₀ m₀ (paced (ending.Made f) (left - 1)) v.registers v.memory
+    made_one : (f : Event) → v.ending ≡ Ok f → Paces n img rs r₀ m₀ (paced (Ok f) (left - 1)) v.registers v.memory
     made_one f e =
         let h = t.some in
         let l = t.most in
@@ -106,21 +105,21 @@ module _ (n : ℕ) (img : List ℕ) (rs : List Range) (r₀ : Registers) (m₀ :
         }
 
     -- it stopped, or some steps end with it
-    pub ends_stopped : (x : Ending) → v.ending ≡ x → (s : Stop) → x ≡ ending.Stopped s → Paces n img rs r₀ m₀ (paced x left) v.registers v.memory
+    pub ends_stopped : (x : Result Event Stop) → v.ending ≡ x → (s : Stop) → x ≡ Err s → Paces n img rs r₀ m₀ (paced x left) v.registers v.memory
     ends_stopped x e s f = rw f (stopped s (e ∙ f))
 
-    pub ends_made : (x : Ending) → v.ending ≡ x → (f : Event) → x ≡ ending.Made f → Paces n img rs r₀ m₀ (paced x (left - 1)) v.registers v.memory
+    pub ends_made : (x : Result Event Stop) → v.ending ≡ x → (f : Event) → x ≡ Ok f → Paces n img rs r₀ m₀ (paced x (left - 1)) v.registers v.memory
     ends_made x e f g = rw g (made_one f (e ∙ g))
 
     pub ends_after : Paces n img rs r₀ m₀ (paced_after v.ending left) v.registers v.memory
     ends_after = by v.ending refl
       where
-        by : (x : Ending) → v.ending ≡ x → Paces n img rs r₀ m₀ (paced_after x left) v.registers v.memory
-        by (ending.Made f) e = made_one f e
-        by (ending.Stopped s) e = stopped s e
+        by : (x : Result Event Stop) → v.ending ≡ x → Paces n img rs r₀ m₀ (paced_after x left) v.registers v.memory
+        by (Ok f) e = made_one f e
+        by (Err s) e = stopped s e
 
     -- or there are more
-    pub stands_next : v.ending ≡ ending.Made event.Instruction → icr v.registers ≡ icr r → 0 < left - 1 → Stands (left - 1) v.registers v.memory
+    pub stands_next : v.ending ≡ Ok event.Instruction → icr v.registers ≡ icr r → 0 < left - 1 → Stands (left - 1) v.registers v.memory
     stands_next e i h =
         let l = t.most in
         record {

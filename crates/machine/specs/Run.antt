@@ -1,5 +1,5 @@
 -- A run of n steps: one after the other, to the first stop or to the n-th.
-use Rattle.std.specs.Prelude.{◌≡◌, ℕ, zero, suc, ◌+◌, List}
+use Rattle.std.specs.Prelude.{◌≡◌, ℕ, zero, suc, ◌+◌, List, Err, Ok, Result, ⊤}
 use Rattle.memory.specs.Memory.{Memory}
 use Rattle.registers.specs.Registers.{pc}
 use Rattle.registers.specs.declared.Registers.{Registers}
@@ -7,8 +7,6 @@ use Rattle.events.specs.declared.event.Event.TheVariants as event
 use Rattle.protection.specs.declared.range.Range.{Range}
 use Rattle.inputs.specs.Checks.{step_verdict}
 use Rattle.inputs.specs.declared.verdict.Refusal.{Refusal}
-use Rattle.inputs.specs.declared.verdict.Verdict.{Verdict}
-use Rattle.inputs.specs.declared.verdict.Verdict.TheVariants as verdict
 use Rattle.machine.specs.Step.{StepOf, step_of}
 use Rattle.machine.specs.declared.answer.Outcome.{Outcome}
 use Rattle.machine.specs.declared.answer.Outcome.TheVariants.{Made, Stopped, Refused}
@@ -37,9 +35,9 @@ run_from (suc n) img rs last made r xs m =
     let s = step_of img r xs rs m in
     onward s.outcome made s (run_from n img rs s.outcome (made + 1) s.registers s.requests s.memory)
 
-abbrev pub run_by : ℕ → List ℕ → Registers → List ℕ → List Range → Memory → Verdict → RunOf
-run_by n img r xs rs m (verdict.Refused x) = ran (Refused x) 0 r xs m
-run_by n img r xs rs m verdict.Accepted = run_from n img rs (Made event.Instruction) 0 r xs m
+abbrev pub run_by : ℕ → List ℕ → Registers → List ℕ → List Range → Memory → Result ⊤ Refusal → RunOf
+run_by n img r xs rs m (Err x) = ran (Refused x) 0 r xs m
+run_by n img r xs rs m (Ok tt) = run_from n img rs (Made event.Instruction) 0 r xs m
 
 -- a run that is refused makes no step and leaves registers, requests and memory as they were
 abbrev pub RefusedKeeps : Registers → List ℕ → Memory → RunOf → Type 0

@@ -1,29 +1,28 @@
 -- A step: refused by the rules 1, 13 and 2 to 4, or stopped, with all as before; or made, with an event. It names the ranges that permitted its accesses, where it is not refused.
-use Rattle.std.specs.Prelude.{ℕ, List}
+use Rattle.std.specs.Prelude.{ℕ, List, Err, Ok, Result, ⊤}
 use Rattle.memory.specs.Memory.{Memory}
 use Rattle.registers.specs.Registers.{pc}
 use Rattle.registers.specs.declared.Registers.{Registers}
-use Rattle.events.specs.declared.event.Ending.{Ending}
-use Rattle.events.specs.declared.event.Ending.TheVariants as ending
 use Rattle.protection.specs.declared.range.Range.{Range}
 use Rattle.inputs.specs.Checks.{step_verdict}
-use Rattle.inputs.specs.declared.verdict.Verdict.{Verdict}
-use Rattle.inputs.specs.declared.verdict.Verdict.TheVariants as verdict
 use Rattle.decisions.specs.Decision.{one_of, requests_of}
 use Rattle.permits.specs.Permits.{no_permits, permits_of}
 use Rattle.permits.specs.declared.Permits.{Permits}
 use Rattle.machine.specs.declared.answer.Outcome.{Outcome}
 use Rattle.machine.specs.declared.answer.Outcome.TheVariants.{Made, Stopped, Refused}
+use Rattle.events.specs.declared.event.Event.{Event}
+use Rattle.events.specs.declared.event.Stop.{Stop}
+use Rattle.inputs.specs.declared.verdict.Refusal.{Refusal}
 
-abbrev pub outcome_of : Ending → Outcome
-outcome_of (ending.Made e) = Made e
-outcome_of (ending.Stopped s) = Stopped s
+abbrev pub outcome_of : Result Event Stop → Outcome
+outcome_of (Ok e) = Made e
+outcome_of (Err s) = Stopped s
 
 -- what an outcome says of the rules 1, 13 and 2 to 4
-abbrev pub verdict_in : Outcome → Verdict
-verdict_in (Made e) = verdict.Accepted
-verdict_in (Stopped s) = verdict.Accepted
-verdict_in (Refused x) = verdict.Refused x
+abbrev pub verdict_in : Outcome → Result ⊤ Refusal
+verdict_in (Made e) = Ok tt
+verdict_in (Stopped s) = Ok tt
+verdict_in (Refused x) = Err x
 
 -- the outcome; registers, requests and memory after the step; and the ranges that permitted its fetch and its data access
 pub record StepOf : Type 0 where
@@ -37,18 +36,18 @@ abbrev pub stepped : Outcome → Registers → List ℕ → Memory → Permits �
 stepped o r xs m p = record { outcome = o; registers = r; requests = xs; memory = m; permits = p }
 
 -- a stop hands no new state on, but names the ranges; ys are the requests after a step that is made
-abbrev pub accepted_by : Registers → List ℕ → Memory → List ℕ → Permits → Ending → Registers → Memory → StepOf
-accepted_by r xs m ys p (ending.Stopped s) q n = stepped (Stopped s) r xs m p
-accepted_by r xs m ys p (ending.Made e) q n = stepped (Made e) q ys n p
+abbrev pub accepted_by : Registers → List ℕ → Memory → List ℕ → Permits → Result Event Stop → Registers → Memory → StepOf
+accepted_by r xs m ys p (Err s) q n = stepped (Stopped s) r xs m p
+accepted_by r xs m ys p (Ok e) q n = stepped (Made e) q ys n p
 
 abbrev pub accepted_of : List ℕ → Registers → List ℕ → List Range → Memory → StepOf
 accepted_of img r xs rs m =
     let v = one_of img r xs rs m in
     accepted_by r xs m (requests_of img r xs rs) (permits_of img r.a r.core xs rs) v.ending v.registers v.memory
 
-abbrev pub stepped_by : List ℕ → Registers → List ℕ → List Range → Memory → Verdict → StepOf
-stepped_by img r xs rs m (verdict.Refused x) = stepped (Refused x) r xs m no_permits
-stepped_by img r xs rs m verdict.Accepted = accepted_of img r xs rs m
+abbrev pub stepped_by : List ℕ → Registers → List ℕ → List Range → Memory → Result ⊤ Refusal → StepOf
+stepped_by img r xs rs m (Err x) = stepped (Refused x) r xs m no_permits
+stepped_by img r xs rs m (Ok tt) = accepted_of img r xs rs m
 
 -- img is the image, xs the request words of the 16 sources, rs the 32 ranges
 unfoldable pub step_of : List ℕ → Registers → List ℕ → List Range → Memory → StepOf

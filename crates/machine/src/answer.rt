@@ -33,11 +33,11 @@ pub struct Ran {
 }
 
 // The outcome of a step that was accepted.
-pub fn outcome_of(e: Ending) -> Outcome
+pub fn outcome_of(e: Result<Event, Stop>) -> Outcome
     ensures { result ≡ outcome_of e }
 {
     match e {
-        Ending::Made(v) => Outcome::Made(v),
-        Ending::Stopped(s) => Outcome::Stopped(s),
+        Ok(v) => Outcome::Made(v),
+        Err(s) => Outcome::Stopped(s),
     }
 }

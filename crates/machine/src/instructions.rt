@@ -21,7 +21,7 @@ use spans::{Ahead, Span, look_ahead};
 // How some steps ended, and how many are left to make.
 #[derive(Clone, Copy)]
 pub struct Paced {
-    pub ending: Ending,
+    pub ending: Result<Event, Stop>,
     pub left: u32,
 }
 
@@ -56,7 +56,7 @@ fn steady_steps(
         let i = read_record(image, at + 8 * k as usize, next);
         let done = execute_instruction(base, window, base2, window2, d, a, core, words, i);
         let ending = ending_of(done);
-        let Ending::Made(_) = ending else {
+        let Ok(_) = ending else {
             return Paced {
                 ending: ending,
                 left: left,
@@ -95,17 +95,17 @@ fn steady_steps(
 }
 
 // One step of n that ended so.
-fn after_one(ending: Ending, n: u32) -> Paced
+fn after_one(ending: Result<Event, Stop>, n: u32) -> Paced
     requires { 0 < n }
     ensures { result ≡ paced_after ending n }
 {
     match ending {
-        Ending::Made(e) => Paced {
-            ending: Ending::Made(e),
+        Ok(e) => Paced {
+            ending: Ok(e),
             left: n - 1,
         },
-        Ending::Stopped(s) => Paced {
-            ending: Ending::Stopped(s),
+        Err(s) => Paced {
+            ending: Err(s),
             left: n,
         },
     }
@@ -132,11 +132,11 @@ pub fn instructions(
     ensures { Paces n image.now (ranges_in words.now) (registers d.old a.old core.old) (lent base window.old base2 window2.old) result (registers d.new a.new core.new) (lent base window.new base2 window2.new) }
 {
     match look_ahead(image, guide, marks, core, words) {
-        Ahead::Traps(t) => {
+        Err(t) => {
             let pc = core[PC];
             after_one(trap(base, window, base2, window2, d, a, core, t, pc), n)
         }
-        Ahead::Records(s) => steady_steps(
+        Ok(s) => steady_steps(
             base, window, base2, window2, image, guide, marks, d, a, core, words, s, n,
         ),
     }

@@ -37,7 +37,7 @@ fn first_source(sources: &[u32; 16], icr: u32, n: u32) -> Best
 // How a run ended, and the steps made.
 #[derive(Clone, Copy)]
 pub struct Went {
-    pub ending: Ending,
+    pub ending: Result<Event, Stop>,
     pub made: u32,
 }
 
@@ -77,7 +77,7 @@ fn run_by_reference(
                 best.source,
                 best.level,
             ));
-            let Ending::Made(e) = ending else {
+            let Ok(e) = ending else {
                 return Went {
                     ending: ending,
                     made: n - left,
@@ -93,7 +93,7 @@ fn run_by_reference(
             base, window, base2, window2, image, guide, marks, d, a, core, words, left,
         );
         let ending = p.ending;
-        let Ending::Made(e) = ending else {
+        let Ok(e) = ending else {
             return Went {
                 ending: ending,
                 made: n - p.left,
@@ -103,7 +103,7 @@ fn run_by_reference(
         left = p.left;
     }
     Went {
-        ending: Ending::Made(last),
+        ending: Ok(last),
         made: n,
     }
 }

@@ -92,16 +92,16 @@ pub fn step(
     let tried = scan_step(base, window, base2, window2, image, registers.core[PC]);
     let verdict = tried.verdict;
     match verdict {
-        Verdict::Refused(x) => Stepped {
+        Err(x) => Stepped {
             registers: registers,
             requests: requests,
             outcome: Outcome::Refused(x),
             permits: Permits {
-                fetch: Permit::Unnamed,
-                data: Permit::Unnamed,
+                fetch: None,
+                data: None,
             },
         },
-        Verdict::Accepted => {
+        Ok(()) => {
             step_accepted(
                 base, window, base2, window2, image, tried.long, registers, requests, ranges,
             )
@@ -128,13 +128,13 @@ pub fn run(
     let tried = scan_step(base, window, base2, window2, image, registers.core[PC]);
     let verdict = tried.verdict;
     match verdict {
-        Verdict::Refused(x) => Ran {
+        Err(x) => Ran {
             registers: registers,
             requests: requests,
             outcome: Outcome::Refused(x),
             made: 0,
         },
-        Verdict::Accepted => {
+        Ok(()) => {
             let words = flat(ranges);
             let mut d = registers.d;
             let mut a = registers.a;

@@ -1,5 +1,5 @@
 -- The ranges that permit a step's fetch and its data access: of set PRS the lowest (02, point 2).
-use Rattle.std.specs.Prelude.{ℕ, ◌≡◌, true, false, List, ◌⊎◌, get_or}
+use Rattle.std.specs.Prelude.{ℕ, ◌≡◌, true, false, List, ◌⊎◌, get_or, None, Option}
 use Rattle.fields.specs.Psw.{psw_prs}
 use Rattle.memory.specs.Address.{as_address}
 use Rattle.memory.specs.declared.address.Address.{Address}
@@ -9,8 +9,6 @@ use Rattle.protection.specs.Access.{asks, permit_of}
 use Rattle.protection.specs.declared.range.Range.{Range}
 use Rattle.protection.specs.declared.range.Right.{Right}
 use Rattle.protection.specs.declared.range.Right.TheVariants.{Read, Write, Execute}
-use Rattle.protection.specs.declared.range.Permit.{Permit}
-use Rattle.protection.specs.declared.range.Permit.TheVariants.{Unnamed}
 use Rattle.operations.specs.Operations.{access_of}
 use Rattle.operations.specs.declared.Access.{Access}
 use Rattle.operations.specs.declared.Access.TheVariants as data-access
@@ -45,16 +43,16 @@ data_asked a (Traps t) = none
 data_asked a (Executes i) = data_in i a
 
 -- the range named for it
-unfoldable pub permit_asked : List ℕ → List Range → Asked → Permit
-permit_asked core rs none = Unnamed
+unfoldable pub permit_asked : List ℕ → List Range → Asked → Option ℕ
+permit_asked core rs none = None
 permit_asked core rs (access right address) = permit_of core rs right address
 
-abbrev pub permits_by : Permit → Permit → Permits
+abbrev pub permits_by : Option ℕ → Option ℕ → Permits
 permits_by f d = record { fetch = f; «data» = d }
 
 -- no range is named
 abbrev pub no_permits : Permits
-no_permits = permits_by Unnamed Unnamed
+no_permits = permits_by None None
 
 abbrev pub begun_permits : List ℕ → List ℕ → List Range → Beginning → Permits
 begun_permits a core rs s = permits_by (permit_asked core rs (fetch_asked (get_or core PC 0) s)) (permit_asked core rs (data_asked a s))
@@ -64,6 +62,6 @@ unfoldable pub permits_of : List ℕ → List ℕ → List ℕ → List ℕ → 
 permits_of img a core xs rs = begun_permits a core rs (beginning_of img core xs rs)
 
 -- what is named for an access. The ranges are asked: a range of set PRS that permits it and before which none does, or no range where none permits. They are not: no range
-abbrev pub NamedFor : List ℕ → List Range → Asked → Permit → Type 0
-NamedFor core rs none p = p ≡ Unnamed
-NamedFor core rs (access right address) p = ((asks core address ≡ true) × Lowest rs (psw_prs (get_or core PSW 0)) right address p) ⊎ ((asks core address ≡ false) × (p ≡ Unnamed))
+abbrev pub NamedFor : List ℕ → List Range → Asked → Option ℕ → Type 0
+NamedFor core rs none p = p ≡ None
+NamedFor core rs (access right address) p = ((asks core address ≡ true) × Lowest rs (psw_prs (get_or core PSW 0)) right address p) ⊎ ((asks core address ≡ false) × (p ≡ None))

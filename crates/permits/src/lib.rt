@@ -25,8 +25,8 @@ use registers::{CORE, ICR, PC, SYSCON};
 // The ranges named for a step's fetch and for its data access.
 #[derive(Clone, Copy)]
 pub struct Permits {
-    pub fetch: Permit,
-    pub data: Permit,
+    pub fetch: Option<usize>,
+    pub data: Option<usize>,
 }
 
 // Of the data access of the record at byte `at` of the image, which begins at pc.
@@ -37,7 +37,7 @@ fn permit_record(
     words: &[u32; 96],
     at: usize,
     pc: u32,
-) -> Permit
+) -> Option<usize>
     requires { (at + 8 ≤ length image.now) × FieldsHold (instruction_at image.now at pc) }
     ensures { result ≡ permit_asked core.now (ranges_in words.now) (data_in (instruction_at image.now at pc) a.now) }
 {
@@ -46,7 +46,7 @@ fn permit_record(
     let address = data_address(a[x], o.imm);
     let how = o.access;
     match how {
-        Access::Nothing => Permit::Unnamed,
+        Access::Nothing => None,
         Access::Read => permit_for(core, words, Right::Read, address),
         Access::Write => permit_for(core, words, Right::Write, address),
     }
@@ -71,17 +71,17 @@ fn permit_data(
     a: &[u32; 16],
     core: &[u32; CORE],
     words: &[u32; 96],
-) -> Permit
+) -> Option<usize>
     requires { ImageHolds image.now × (long ≡ true → long_only image.now ≡ true) }
     ensures { result ≡ permit_asked core.now (ranges_in words.now) (data_asked a.now (fetching_at image.now core.now (ranges_in words.now) (get_or core.now PC 0))) }
 {
     let pc = core[PC];
     match check_access(core, words, Right::Execute, as_address(pc)) {
-        Check::Fails(_) => Permit::Unnamed,
-        Check::Passes => {
+        Err(_) => None,
+        Ok(()) => {
             let rest = rest_of(image, long, pc);
             if rest.records == 0 {
-                return Permit::Unnamed;
+                return None;
             }
             permit_record(image, a, core, words, rest.at, pc)
         }
@@ -104,15 +104,15 @@ pub fn permits_of(
 {
     if !fields::syscon::protection(core[SYSCON]) {
         return Permits {
-            fetch: Permit::Unnamed,
-            data: Permit::Unnamed,
+            fetch: None,
+            data: None,
         };
     }
     let best = best_source(requests);
     if taken(core[ICR], best.level) {
         return Permits {
-            fetch: Permit::Unnamed,
-            data: Permit::Unnamed,
+            fetch: None,
+            data: None,
         };
     }
     Permits {

@@ -19,9 +19,8 @@ use Rattle.protection.specs.Range.{range_at, ranges_in, no_range, enables, permi
 use Rattle.protection.specs.declared.range.Range.{Range}
 use Rattle.protection.specs.declared.range.Right.{Right}
 use Rattle.protection.specs.declared.range.Right.TheVariants.{Read, Write, Execute}
-use Rattle.protection.specs.declared.range.Permit.{Permit}
-use Rattle.protection.specs.declared.range.Permit.TheVariants.{Unnamed, By}
 use Rattle.protection.proofs.Ranges.{ranges_at}
+use Rattle.std.specs.Prelude.{None, Option, Some}
 
 module _ (rs : List Range) (right : Right) (address : Address) where
   pub none : (n k : ℕ) → ((j : ℕ) → j < n → permits_at rs (k + j) right address ≡ false) → any_from n k rs right address ≡ false
@@ -58,27 +57,27 @@ module _ (rs : List Range) (right : Right) (address : Address) where
     permits_it : permits_at rs i right address ≡ true
     none_before : (j : ℕ) → k ≤ j → j < i → permits_at rs j right address ≡ false
 
-  abbrev LowestFrom : ℕ → ℕ → Permit → Type 0
-  LowestFrom n k (By i) = From n k i
-  LowestFrom n k Unnamed = any_from n k rs right address ≡ false
+  abbrev LowestFrom : ℕ → ℕ → Option ℕ → Type 0
+  LowestFrom n k (Some i) = From n k i
+  LowestFrom n k None = any_from n k rs right address ≡ false
 
   -- range k does not permit it: then it is that of the others
-  later : (n k : ℕ) → permits_at rs k right address ≡ false → (p : Permit) → LowestFrom n (k + 1) p → LowestFrom (suc n) k p
+  later : (n k : ℕ) → permits_at rs k right address ≡ false → (p : Option ℕ) → LowestFrom n (k + 1) p → LowestFrom (suc n) k p
   unfolding any_from
-  later n k e (By i) h =
+  later n k e (Some i) h =
       record { from = omega (arith, h.from); to = omega (arith, h.to); permits_it = h.permits_it; none_before = λ j l u. by j l u (ℕ_discrete j k) }
     where
       by : (j : ℕ) → k ≤ j → j < i → Dec (j ≡ k) → permits_at rs j right address ≡ false
       by j l u (yes z) = rw z e
       by j l u (no z) = h.none_before j (omega arith) u
-  later n k e Unnamed h = rw e h
+  later n k e None h = rw e h
 
   lowest_from_lem : (n k : ℕ) → LowestFrom n k (lowest_from n k rs right address)
   unfolding lowest_from any_from
   lowest_from_lem zero k = refl
   lowest_from_lem (suc n) k = by (permits_at rs k right address) refl (lowest_from_lem n (k + 1))
     where
-      by : (b : Bool) → permits_at rs k right address ≡ b → LowestFrom n (k + 1) (lowest_from n (k + 1) rs right address) → LowestFrom (suc n) k (cond b (By k) (lowest_from n (k + 1) rs right address))
+      by : (b : Bool) → permits_at rs k right address ≡ b → LowestFrom n (k + 1) (lowest_from n (k + 1) rs right address) → LowestFrom (suc n) k (cond b (Some k) (lowest_from n (k + 1) rs right address))
       by true e h = record { from = omega arith; to = omega arith; permits_it = e; none_before = λ j l u. absurd (omega arith) }
       by false e h = later n k e (lowest_from n (k + 1) rs right address) h
 
@@ -86,9 +85,9 @@ module _ (rs : List Range) (right : Right) (address : Address) where
     pub lowest_says : Lowest rs set right address (lowest_of rs set right address)
     lowest_says = by (lowest_of rs set right address) (lowest_from_lem 4 (first_of set right))
       where
-        by : (p : Permit) → LowestFrom 4 (first_of set right) p → Lowest rs set right address p
-        by (By i) h = record { one = record { from = h.from; to = h.to; permits_it = h.permits_it }; none_before = h.none_before }
-        by Unnamed h = h
+        by : (p : Option ℕ) → LowestFrom 4 (first_of set right) p → Lowest rs set right address p
+        by (Some i) h = record { one = record { from = h.from; to = h.to; permits_it = h.permits_it }; none_before = h.none_before }
+        by None h = h
 
     -- no range before the lowest permits it
     not_before : (i k : ℕ) → LowestBy rs set right address i → LowestBy rs set right address k → i ≤ k
@@ -99,14 +98,14 @@ module _ (rs : List Range) (right : Right) (address : Address) where
         by (inr b) = b
 
     -- there is one lowest only
-    only : (p q : Permit) → Lowest rs set right address p → Lowest rs set right address q → q ≡ p
-    only (By i) (By k) h l = let a = not_before i k h l in let b = not_before k i l h in let e : k ≡ i = omega arith in ap By e
-    only (By i) Unnamed h l = absurd (never (sym (permitted_by set i h.one) ∙ l))
-    only Unnamed (By k) h l = absurd (never (sym (permitted_by set k l.one) ∙ h))
-    only Unnamed Unnamed h l = refl
+    only : (p q : Option ℕ) → Lowest rs set right address p → Lowest rs set right address q → q ≡ p
+    only (Some i) (Some k) h l = let a = not_before i k h l in let b = not_before k i l h in let e : k ≡ i = omega arith in ap Some e
+    only (Some i) None h l = absurd (never (sym (permitted_by set i h.one) ∙ l))
+    only None (Some k) h l = absurd (never (sym (permitted_by set k l.one) ∙ h))
+    only None None h l = refl
 
     -- the lowest permitting range is the one defined, and nothing else is
-    pub lowest_is : (r : Permit) → Lowest rs set right address r → (r ≡ lowest_of rs set right address) × Exactly (Lowest rs set right address) r
+    pub lowest_is : (r : Option ℕ) → Lowest rs set right address r → (r ≡ lowest_of rs set right address) × Exactly (Lowest rs set right address) r
     lowest_is r h = exactly (Lowest rs set right address) (lowest_of rs set right address) lowest_says (λ x k. only (lowest_of rs set right address) x lowest_says k) r (only (lowest_of rs set right address) r lowest_says h)
 
 -- a range that was read and tried

@@ -1,5 +1,5 @@
 -- Memory access checking (002, 7.3): class 1 of the traps of a read, a write or a fetch.
-use Rattle.std.specs.Prelude.{ℕ, Bool, cond, not, ◌&&◌, ◌||◌, List, get_or, leb}
+use Rattle.std.specs.Prelude.{ℕ, Bool, cond, not, ◌&&◌, ◌||◌, List, get_or, leb, Err, None, Ok, Option, Result, ⊤}
 use Rattle.fields.specs.Psw.{psw_prs, is_user0}
 use Rattle.fields.specs.Syscon.{syscon_proten}
 use Rattle.registers.specs.Core.{PSW, SYSCON}
@@ -10,10 +10,6 @@ use Rattle.protection.specs.Range.{permitted, lowest_of}
 use Rattle.protection.specs.declared.range.Range.{Range}
 use Rattle.protection.specs.declared.range.Right.{Right}
 use Rattle.protection.specs.declared.range.Right.TheVariants.{Read, Write, Execute}
-use Rattle.protection.specs.declared.range.Permit.{Permit}
-use Rattle.protection.specs.declared.range.Permit.TheVariants.{Unnamed}
-use Rattle.protection.specs.declared.access.Check.{Check}
-use Rattle.protection.specs.declared.access.Check.TheVariants.{Passes, Fails}
 
 -- read, write, fetch in no permitting range
 abbrev pub denied_of : Right → Trap
@@ -26,17 +22,17 @@ abbrev pub peripheral : Address → Bool
 peripheral address = leb 0xE000_0000 address.0
 
 -- segments E and F skip the ranges, and are not for User-0. The ranges are those of set PRS, only when protection is on, and only the first byte counts
-unfoldable pub check_of : List ℕ → List Range → Right → Address → Check
+unfoldable pub check_of : List ℕ → List Range → Right → Address → Result ⊤ Trap
 check_of core rs right address =
     let psw = get_or core PSW 0 in
     let syscon = get_or core SYSCON 0 in
-    cond (peripheral address) (cond (is_user0 psw) (Fails MPP) Passes)
-    (cond (not (syscon_proten syscon) || permitted rs (psw_prs psw) right address) Passes (Fails (denied_of right)))
+    cond (peripheral address) (cond (is_user0 psw) (Err MPP) (Ok tt))
+    (cond (not (syscon_proten syscon) || permitted rs (psw_prs psw) right address) (Ok tt) (Err (denied_of right)))
 
 -- the ranges are asked
 abbrev pub asks : List ℕ → Address → Bool
 asks core address = not (peripheral address) && syscon_proten (get_or core SYSCON 0)
 
 -- the range named for an access: of set PRS the lowest that permits it, and only where the ranges are asked
-unfoldable pub permit_of : List ℕ → List Range → Right → Address → Permit
-permit_of core rs right address = cond (asks core address) (lowest_of rs (psw_prs (get_or core PSW 0)) right address) Unnamed
+unfoldable pub permit_of : List ℕ → List Range → Right → Address → Option ℕ
+permit_of core rs right address = cond (asks core address) (lowest_of rs (psw_prs (get_or core PSW 0)) right address) None

@@ -1,12 +1,10 @@
 -- The protection ranges (002, 3.8, Figures 28 and 29, and 7.1.2).
-use Rattle.std.specs.Prelude.{ℕ, zero, suc, ◌+◌, ◌*◌, ◌≤◌, ◌<◌, ◌≡◌, Bool, true, false, cond, ◌&&◌, ◌||◌, List, [], ◌∷◌, get_or, ltb, leb}
+use Rattle.std.specs.Prelude.{ℕ, zero, suc, ◌+◌, ◌*◌, ◌≤◌, ◌<◌, ◌≡◌, Bool, true, false, cond, ◌&&◌, ◌||◌, List, [], ◌∷◌, get_or, ltb, leb, None, Option, Some}
 use Rattle.fields.specs.Field.{is_set}
 use Rattle.memory.specs.declared.address.Address.{Address}
 use Rattle.protection.specs.declared.range.Range.{Range}
 use Rattle.protection.specs.declared.range.Right.{Right}
 use Rattle.protection.specs.declared.range.Right.TheVariants.{Read, Write, Execute}
-use Rattle.protection.specs.declared.range.Permit.{Permit}
-use Rattle.protection.specs.declared.range.Permit.TheVariants.{Unnamed, By}
 
 -- range k of 96 words, three to a range
 abbrev pub range_at : List ℕ → ℕ → Range
@@ -54,12 +52,12 @@ abbrev pub permitted : List Range → ℕ → Right → Address → Bool
 permitted rs set right address = any_from 4 (first_of set right) rs right address
 
 -- the first of n ranges from range k on that permits it, by its number
-unfoldable pub lowest_from : ℕ → ℕ → List Range → Right → Address → Permit
-lowest_from zero k rs right address = Unnamed
-lowest_from (suc n) k rs right address = cond (permits_at rs k right address) (By k) (lowest_from n (k + 1) rs right address)
+unfoldable pub lowest_from : ℕ → ℕ → List Range → Right → Address → Option ℕ
+lowest_from zero k rs right address = None
+lowest_from (suc n) k rs right address = cond (permits_at rs k right address) (Some k) (lowest_from n (k + 1) rs right address)
 
 -- of the set's four ranges the lowest that permits it (02, point 2)
-abbrev pub lowest_of : List Range → ℕ → Right → Address → Permit
+abbrev pub lowest_of : List Range → ℕ → Right → Address → Option ℕ
 lowest_of rs set right address = lowest_from 4 (first_of set right) rs right address
 
 -- range k is of the set, and permits the access
@@ -74,6 +72,6 @@ pub record LowestBy (rs : List Range) (set : ℕ) (right : Right) (address : Add
   pub none_before : (j : ℕ) → first_of set right ≤ j → j < k → permits_at rs j right address ≡ false
 
 -- what is named: the lowest permitting range, and no range where none of the four permits
-abbrev pub Lowest : List Range → ℕ → Right → Address → Permit → Type 0
-Lowest rs set right address (By k) = LowestBy rs set right address k
-Lowest rs set right address Unnamed = permitted rs set right address ≡ false
+abbrev pub Lowest : List Range → ℕ → Right → Address → Option ℕ → Type 0
+Lowest rs set right address (Some k) = LowestBy rs set right address k
+Lowest rs set right address None = permitted rs set right address ≡ false

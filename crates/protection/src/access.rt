@@ -34,31 +34,31 @@ fn is_peripheral(address: Address) -> bool
 }
 
 // The lowest range of set PRS that permits the access, where the ranges are asked and one does.
-pub fn permit_for(core: &[u32; CORE], words: &[u32; 96], right: Right, address: Address) -> Permit
+pub fn permit_for(core: &[u32; CORE], words: &[u32; 96], right: Right, address: Address) -> Option<usize>
     ensures { result ≡ permit_of core.now (ranges_in words.now) right address }
 {
     if is_peripheral(address) {
-        return Permit::Unnamed;
+        return None;
     }
     if !fields::syscon::protection(core[SYSCON]) {
-        return Permit::Unnamed;
+        return None;
     }
     let set = fields::psw::protection_set(core[PSW]);
     search(words, set, right, address)
 }
 
 // Checks the access to an address.
-pub fn check_access(core: &[u32; CORE], words: &[u32; 96], right: Right, address: Address) -> Check
+pub fn check_access(core: &[u32; CORE], words: &[u32; 96], right: Right, address: Address) -> Result<(), Trap>
     ensures { result ≡ check_of core.now (ranges_in words.now) right address }
 {
     if is_peripheral(address) {
         if fields::psw::user0(core[PSW]) {
-            return Check::Fails(MPP);
+            return Err(MPP);
         }
-        return Check::Passes;
+        return Ok(());
     }
     if !fields::syscon::protection(core[SYSCON]) {
-        return Check::Passes;
+        return Ok(());
     }
     match search(
         words,
@@ -66,7 +66,7 @@ pub fn check_access(core: &[u32; CORE], words: &[u32; 96], right: Right, address
         right,
         address,
     ) {
-        Permit::Unnamed => Check::Fails(denied(right)),
-        Permit::By(_) => Check::Passes,
+        None => Err(denied(right)),
+        Some(_) => Ok(()),
     }
 }

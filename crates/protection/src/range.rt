@@ -92,7 +92,7 @@ fn first(set: usize, right: Right) -> usize
 }
 
 // The lowest range of the set that permits the access to an address.
-pub fn search(words: &[u32; 96], set: usize, right: Right, address: Address) -> Permit
+pub fn search(words: &[u32; 96], set: usize, right: Right, address: Address) -> Option<usize>
     requires { set < 4 }
     ensures { (result ≡ lowest_of (ranges_in words.now) set right address) × Exactly (Lowest (ranges_in words.now) set right address) result }
 {
@@ -108,7 +108,7 @@ pub fn search(words: &[u32; 96], set: usize, right: Right, address: Address) -> 
         i += 1;
     };
     if n == 32 {
-        return Permit::Unnamed;
+        return None;
     }
-    Permit::By(n)
+    Some(n)
 }

@@ -12,12 +12,12 @@ use Rattle.fields.proofs.Links.{link_below}
 use Rattle.areas.specs.Place.{place_of}
 use Rattle.areas.specs.Area.{area_at}
 use Rattle.fields.specs.declared.link.Link.{Link}
-use Rattle.areas.specs.declared.link.Place.TheVariants.{At}
 use Rattle.lists.specs.Lists.{Leads, count}
 use Rattle.lists.proofs.Counts.{one_self}
 use Rattle.series.specs.Abstract.{SavedContext, held, links}
 use Rattle.series.specs.Claim.{end, Stacked}
 use Rattle.series.proofs.Areas.{first_same}
+use Rattle.std.specs.Prelude.{Some}
 
 pub count_self : (k : Link) (ks : List Link) → 1 ≤ count k (k ∷ ks)
 count_self k ks = omega (arith, one_self k)
@@ -32,7 +32,7 @@ module _ (m n : Memory) (base : n.windows ≡ m.windows) (len : length n.bytes �
 
   -- the areas of some links are as they were
   abbrev pub Unchanged : List Link → Type 0
-  Unchanged ks = (k : Link) → k.0 < 2 ^ 20 → 1 ≤ count k ks → (at : ℕ) → place_of m k ≡ At at → area_at n.bytes at ≡ area_at m.bytes at
+  Unchanged ks = (k : Link) → k.0 < 2 ^ 20 → 1 ≤ count k ks → (at : ℕ) → place_of m k ≡ Some at → area_at n.bytes at ≡ area_at m.bytes at
 
   tail : (k : Link) (ks : List Link) → Unchanged (k ∷ ks) → Unchanged ks
   tail k ks f j b c at p = f j b (omega arith) at p

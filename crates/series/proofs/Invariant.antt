@@ -19,7 +19,6 @@ use Rattle.areas.specs.Link.{area_address}
 use Rattle.areas.specs.Place.{place_of}
 use Rattle.areas.specs.Area.{area_at}
 use Rattle.fields.specs.declared.link.Link.{Link}
-use Rattle.areas.specs.declared.link.Place.TheVariants.{At}
 use Rattle.areas.proofs.Places.{apart, placed_at_lem}
 use Rattle.areas.proofs.Parts.{area_first}
 use Rattle.lists.specs.Lists.{Leads, count}
@@ -34,6 +33,7 @@ use Rattle.series.specs.Calls.{State, state}
 use Rattle.series.specs.Claim.{end, Stacked, Agree}
 use Rattle.series.proofs.Areas.{written_first, written_apart, held_written, linked_word, linked_apart}
 use Rattle.series.proofs.Frames.{Unchanged, leads_frame, stacked_frame, place_same}
+use Rattle.std.specs.Prelude.{Some}
 
 -- L are the areas listed at the start
 pub record Inv (L : List Link) (s : State) (b : AbstractLists) : Type 0 where
@@ -43,15 +43,15 @@ pub record Inv (L : List Link) (s : State) (b : AbstractLists) : Type 0 where
   pub same : (l : Link) → count l b.free + count l (links b.saved) ≡ count l L
   pub once : (l : Link) → count l L ≤ 1
 
-at_inj : {a b : ℕ} → At a ≡ At b → a ≡ b
+at_inj : {a b : ℕ} → Some a ≡ Some b → a ≡ b
 at_inj e = cc
 
 -- two places of one link are the same
-pub same_place : (m : Memory) (l : Link) (a b : ℕ) → place_of m l ≡ At a → place_of m l ≡ At b → a ≡ b
+pub same_place : (m : Memory) (l : Link) (a b : ℕ) → place_of m l ≡ Some a → place_of m l ≡ Some b → a ≡ b
 same_place m l a b p q = at_inj (sym p ∙ q)
 
 -- other links' areas lie apart
-others : (m : Memory) (l : Link) (at : ℕ) → l.0 < 2 ^ 20 → place_of m l ≡ At at → (k : Link) → k.0 < 2 ^ 20 → (l.0 ≡ k.0 → ⊥) → (p : ℕ) → place_of m k ≡ At p → ((at + 64 ≤ p) ⊎ (p + 64 ≤ at)) × (p + 64 ≤ length m.bytes)
+others : (m : Memory) (l : Link) (at : ℕ) → l.0 < 2 ^ 20 → place_of m l ≡ Some at → (k : Link) → k.0 < 2 ^ 20 → (l.0 ≡ k.0 → ⊥) → (p : ℕ) → place_of m k ≡ Some p → ((at + 64 ≤ p) ⊎ (p + 64 ≤ at)) × (p + 64 ≤ length m.bytes)
 others m l at h e k g n p f = (apart m.windows (length m.bytes) l k at p h g n e f, (placed_at_lem m.windows (length m.bytes) (area_address k) p f).inside)
 
 -- a link that stands on a list where l does not is another one
@@ -61,7 +61,7 @@ not_on l k ks z c e = let s : l ≡ k = ap (λ (n : ℕ). record { 0 = n }) e in
 module _ {L : List Link} {r : Registers} {m : Memory} where
   -- ---- a save
   module _ (l : Link) (ls : List Link) (cs : List SavedContext) (i : Inv L (state r m) (lists (l ∷ ls) cs)) (half : Half) (saved-pc : ℕ) (h : saved-pc < 2 ^ 32)
-      (at : ℕ) (p : place_of m (link_of (fcx r)) ≡ At at) where
+      (at : ℕ) (p : place_of m (link_of (fcx r)) ≡ Some at) where
     abbrev ws : List ℕ
     ws = context_of half saved-pc r
 
@@ -71,7 +71,7 @@ module _ {L : List Link} {r : Registers} {m : Memory} where
     is_l : link_of (fcx r) ≡ l
     is_l = i.agree.free.0
 
-    place_l : place_of m l ≡ At at
+    place_l : place_of m l ≡ Some at
     place_l = ap (place_of m) (sym is_l) ∙ p
 
     inside : at + 64 ≤ length m.bytes
@@ -125,14 +125,14 @@ module _ {L : List Link} {r : Registers} {m : Memory} where
         }
 
   -- ---- a return
-  module _ (c : SavedContext) (cs : List SavedContext) (fs : List Link) (i : Inv L (state r m) (lists fs (c ∷ cs))) (at : ℕ) (p : place_of m (link_of (pcxi r)) ≡ At at) where
+  module _ (c : SavedContext) (cs : List SavedContext) (fs : List Link) (i : Inv L (state r m) (lists fs (c ∷ cs))) (at : ℕ) (p : place_of m (link_of (pcxi r)) ≡ Some at) where
     abbrev n' : Memory
     n' = memory m.windows (put_word m.bytes at (fcx r))
 
     is_c : link_of (pcxi r) ≡ c.link
     is_c = i.agree.saved.0
 
-    place_c : place_of m c.link ≡ At at
+    place_c : place_of m c.link ≡ Some at
     place_c = ap (place_of m) (sym is_c) ∙ p
 
     inside' : at + 64 ≤ length m.bytes

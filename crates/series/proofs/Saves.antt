@@ -20,17 +20,14 @@ use Rattle.events.specs.Traps.{FCD}
 use Rattle.events.specs.declared.event.Event.{Event}
 use Rattle.events.specs.declared.event.Stop.{Stop}
 use Rattle.events.specs.declared.event.Stop.TheVariants.{NoArea}
-use Rattle.events.specs.declared.event.Ending.TheVariants.{Stopped}
 use Rattle.fields.specs.Link.{link_of}
 use Rattle.areas.specs.Place.{place_of}
 use Rattle.fields.specs.declared.link.Link.{Link}
-use Rattle.areas.specs.declared.link.Place.TheVariants.{At}
 use Rattle.lists.specs.Lists.{Leads}
 use Rattle.contexts.specs.Context.{ul_of, upper_of, context_of}
 use Rattle.contexts.specs.Save.{room_of}
 use Rattle.contexts.specs.declared.context.Half.{Half}
 use Rattle.contexts.specs.declared.context.Half.TheVariants.{Upper}
-use Rattle.contexts.specs.declared.save.Room.TheVariants as room
 use Rattle.contexts.proofs.Rooms.{never_room, room_at_lem, room_none, room_some}
 use Rattle.entries.specs.Entry.{MadeOf, trap_entry}
 use Rattle.decisions.specs.Valid.{Valid}
@@ -43,12 +40,13 @@ use Rattle.series.specs.Calls.{state}
 use Rattle.series.specs.Claim.{end}
 use Rattle.series.proofs.Frames.{place_same}
 use Rattle.series.proofs.Invariant.{Inv, save_inv}
+use Rattle.std.specs.Prelude.{Err, Ok, Some}
 
 -- ---- the area for a save, from the free list
-no_room : (m : Memory) (l : Link) → l ≡ end → room_of m l ≡ room.Stops NoArea
+no_room : (m : Memory) (l : Link) → l ≡ end → room_of m l ≡ Err NoArea
 no_room m l e = sym (room_none m.windows (length m.bytes) l (ap (λ (l : Link). l.0) e))
 
-some_room : (m : Memory) (l : Link) (at : ℕ) → (l.0 ≡ 0 → ⊥) → place_of m l ≡ At at → room_of m l ≡ room.At at
+some_room : (m : Memory) (l : Link) (at : ℕ) → (l.0 ≡ 0 → ⊥) → place_of m l ≡ Some at → room_of m l ≡ Ok at
 some_room m l at z p = sym (room_some m.windows (length m.bytes) l z (place_of m l) refl at p)
 
 -- ---- the upper registers without the heads
@@ -65,7 +63,7 @@ module _ (e : Event) (half : Half) (saved-pc : ℕ) (h : saved-pc < 2 ^ 32) (the
   -- what is to be shown of what the step comes to
   pub record Saved (b : AbstractLists) (x : MadeOf) : Type 0 where
     pub inv : Inv L (state x.registers x.memory) (save_one s b.free b)
-    pub stays : (y : Stop) → x.ending ≡ Stopped y → save_one s b.free b ≡ b
+    pub stays : (y : Stop) → x.ending ≡ Err y → save_one s b.free b ≡ b
 
   module _ (w : Valid r) where
     abbrev q : ℕ → Registers
@@ -84,7 +82,7 @@ module _ (e : Event) (half : Half) (saved-pc : ℕ) (h : saved-pc < 2 ^ 32) (the
     q_upper at = ap upper_registers (t.blind r w _ _) ∙ upper_blind _ _ (then r)
 
     -- ---- one save
-    one_save : (l : Link) (ls : List Link) (cs : List SavedContext) → Inv L (state r m) (lists (l ∷ ls) cs) → (at : ℕ) → room_of m (link_of (fcx r)) ≡ room.At at
+    one_save : (l : Link) (ls : List Link) (cs : List SavedContext) → Inv L (state r m) (lists (l ∷ ls) cs) → (at : ℕ) → room_of m (link_of (fcx r)) ≡ Ok at
         → Inv L (state (q at) (memory m.windows (saved_bytes e half saved-pc then r m at))) (lists ls (context l half (named half r) ∷ cs))
     one_save l ls cs i at k =
         save_inv l ls cs i half saved-pc h at (room_at_lem m.windows (length m.bytes) (link_of (fcx r)) at k).lies (q at) (q_valid at) (q_fcx at) (q_pcxi at)
@@ -93,7 +91,7 @@ module _ (e : Event) (half : Half) (saved-pc : ℕ) (h : saved-pc < 2 ^ 32) (the
     abbrev n : ℕ → Memory
     n at = memory m.windows (saved_bytes e half saved-pc then r m at)
 
-    two_saves : (l k : Link) (ks : List Link) (cs : List SavedContext) → Inv L (state r m) (lists (l ∷ k ∷ ks) cs) → (at second : ℕ) → room_of m (link_of (fcx r)) ≡ room.At at → room_of m (link_of (word_at m.bytes at)) ≡ room.At second
+    two_saves : (l k : Link) (ks : List Link) (cs : List SavedContext) → Inv L (state r m) (lists (l ∷ k ∷ ks) cs) → (at second : ℕ) → room_of m (link_of (fcx r)) ≡ Ok at → room_of m (link_of (word_at m.bytes at)) ≡ Ok second
         → Inv L (state (fcd_registers e half saved-pc then r m at second) (memory m.windows (put_words (saved_bytes e half saved-pc then r m at) second (upper_of (q at)) 16)))
         (save_two s l (k ∷ ks) (lists (l ∷ k ∷ ks) cs))
     two_saves l k ks cs i at second a c =
@@ -102,7 +100,7 @@ module _ (e : Event) (half : Half) (saved-pc : ℕ) (h : saved-pc < 2 ^ 32) (the
         let x = after_save Upper second (n at).bytes (q at) in
         let f : Then (trap_entry FCD (pc x)) = trap_then FCD (pc x) (small (omega arith) (omega arith)) ((after_valid Upper second (n at).bytes (q_valid at)).core.each 0) in
         let again : link_of (fcx (q at)) ≡ link_of (word_at m.bytes at) = ap (λ (y : ℕ). link_of y) (q_fcx at) ∙ link_twice (word_at m.bytes at) in
-        let p : place_of (n at) (link_of (fcx (q at))) ≡ At second = ap (place_of (n at)) again ∙ place_same m (n at) refl (put_words_length m.bytes at (context_of half saved-pc r) 16) (link_of (word_at m.bytes at)) ∙ lies in
+        let p : place_of (n at) (link_of (fcx (q at))) ≡ Some second = ap (place_of (n at)) again ∙ place_same m (n at) refl (put_words_length m.bytes at (context_of half saved-pc r) 16) (link_of (word_at m.bytes at)) ∙ lies in
         let entry : named Upper (q at) ≡ pcxi_of (icr r) (ul_of half) l ∷ upper_registers (then r) =
         ap (λ (y : ℕ). y ∷ upper_registers (q at)) (q_pcxi at ∙ ap (pcxi_of (icr r) (ul_of half)) i.agree.free.0) ∙ ap (λ (y : List ℕ). pcxi_of (icr r) (ul_of half) l ∷ y) (q_upper at) in
         let z =
@@ -113,13 +111,13 @@ module _ (e : Event) (half : Half) (saved-pc : ℕ) (h : saved-pc < 2 ^ 32) (the
 
     -- ---- the cases
     -- the next area's room is that of the next free link
-    next_room : (l : Link) (ls : List Link) (cs : List SavedContext) → Inv L (state r m) (lists (l ∷ ls) cs) → (at : ℕ) → room_of m (link_of (fcx r)) ≡ room.At at → Leads m (link_of (word_at m.bytes at)) ls end
+    next_room : (l : Link) (ls : List Link) (cs : List SavedContext) → Inv L (state r m) (lists (l ∷ ls) cs) → (at : ℕ) → room_of m (link_of (fcx r)) ≡ Ok at → Leads m (link_of (word_at m.bytes at)) ls end
     next_room l ls cs i at k =
         let f = i.agree.free in
         let p = (room_at_lem m.windows (length m.bytes) (link_of (fcx r)) at k).lies in
         subst (λ (a : ℕ). Leads m (link_of (word_at m.bytes a)) ls end) (same_at (sym f.3 ∙ p)) f.4
       where
-        same_at : {a b : ℕ} → At a ≡ At b → a ≡ b
+        same_at : {a b : ℕ} → Some a ≡ Some b → a ≡ b
         same_at g = cc
 
     is_limit : (l : Link) (ls : List Link) (cs : List SavedContext) → Inv L (state r m) (lists (l ∷ ls) cs) → (link_of (fcx r)).0 ≡ l.0

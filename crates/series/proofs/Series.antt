@@ -10,12 +10,8 @@ use Rattle.registers.specs.declared.Registers.{Registers}
 use Rattle.protection.specs.declared.range.Range.{Range}
 use Rattle.fields.specs.declared.link.Link.{Link}
 use Rattle.events.specs.declared.event.Event.TheVariants as event
-use Rattle.events.specs.declared.event.Ending.{Ending}
-use Rattle.events.specs.declared.event.Ending.TheVariants as ending
 use Rattle.entries.specs.Entry.{MadeOf}
 use Rattle.inputs.specs.Checks.{step_verdict}
-use Rattle.inputs.specs.declared.verdict.Verdict.{Verdict}
-use Rattle.inputs.specs.declared.verdict.Verdict.TheVariants.{Accepted, Refused}
 use Rattle.decisions.specs.Heads.{step_heads}
 use Rattle.execute.specs.Decision.{Decision}
 use Rattle.decisions.specs.Decision.{one_of}
@@ -35,6 +31,10 @@ use Rattle.series.specs.Conditions.{verdict_at, decision_at, move_by, moved_at, 
 use Rattle.series.specs.Claim.{RestoredBy, StopsBy, StepBy, EachStep}
 use Rattle.series.proofs.Invariant.{Inv}
 use Rattle.series.proofs.Steps.{Moves, decision_moves}
+use Rattle.std.specs.Prelude.{Err, Ok, Result, ⊤}
+use Rattle.inputs.specs.declared.verdict.Refusal.{Refusal}
+use Rattle.events.specs.declared.event.Event.{Event}
+use Rattle.events.specs.declared.event.Stop.{Stop}
 
 -- ---- a step
 module _ (L : List Link) (a : Args) (b : AbstractLists) where
@@ -44,12 +44,12 @@ module _ (L : List Link) (a : Args) (b : AbstractLists) where
   abbrev m : Memory
   m = a.memory
 
-  pub record Turned (v : Verdict) (now : AbstractLists) : Type 0 where
+  pub record Turned (v : Result ⊤ Refusal) (now : AbstractLists) : Type 0 where
     pub inv : Inv L (after_step (step_at a)) now
     pub restored : StepBy v a b
     pub stops : StopsBy (step_at a).outcome b now
 
-  moved_is : (v : Verdict) → verdict_at a ≡ v → moved_at a b ≡ moved (move_by v a) b
+  moved_is : (v : Result ⊤ Refusal) → verdict_at a ≡ v → moved_at a b ≡ moved (move_by v a) b
   unfolding moved_at
   moved_is v e = rw e
 
@@ -62,9 +62,9 @@ module _ (L : List Link) (a : Args) (b : AbstractLists) where
   settled : (d : Decision) (ys : List ℕ) (p : Permits) (x : MadeOf) → Kept r m x → Moves L d r b x → Settled d (accepted_by r a.requests m ys p x.ending x.registers x.memory) (moved (list_move_of d r) b)
   settled d ys p x k z = by x.ending refl
     where
-      by : (e : Ending) → x.ending ≡ e → Settled d (accepted_by r a.requests m ys p e x.registers x.memory) (moved (list_move_of d r) b)
-      by (ending.Made e) h = record { inv = z.inv; restored = z.restores; stops = tt }
-      by (ending.Stopped y) h =
+      by : (e : Result Event Stop) → x.ending ≡ e → Settled d (accepted_by r a.requests m ys p e x.registers x.memory) (moved (list_move_of d r) b)
+      by (Ok e) h = record { inv = z.inv; restored = z.restores; stops = tt }
+      by (Err y) h =
           record {
             inv = subst (λ (q : Registers). Inv L (state q m) (moved (list_move_of d r) b)) (k.leaves y h).0 (subst (λ (n : Memory). Inv L (state x.registers n) (moved (list_move_of d r) b)) (k.leaves y h).1 z.inv);
             restored = subst (λ (q : Registers). RestoredBy d q b) (k.leaves y h).0 z.restores;
@@ -75,11 +75,11 @@ module _ (L : List Link) (a : Args) (b : AbstractLists) where
   unfolding moved one_of
   step_turns i q = by (verdict_at a) refl q
     where
-      by : (v : Verdict) → verdict_at a ≡ v → QuietBy v L a → Turned v (moved_at a b)
-      by (Refused x) e k =
+      by : (v : Result ⊤ Refusal) → verdict_at a ≡ v → QuietBy v L a → Turned v (moved_at a b)
+      by (Err x) e k =
           let s : step_at a ≡ stepped (outcome.Refused x) r a.requests m no_permits = step_refused a.image.bytes r a.requests a.ranges m x e in
-          record { inv = rw (moved_is (Refused x) e, s) i; restored = tt; stops = rw (moved_is (Refused x) e, s) refl }
-      by Accepted e k =
+          record { inv = rw (moved_is (Err x) e, s) i; restored = tt; stops = rw (moved_is (Err x) e, s) refl }
+      by (Ok tt) e k =
           let w = i.valid in
           let y = i.bytes in
           let d = decision_at a in
@@ -88,9 +88,9 @@ module _ (L : List Link) (a : Args) (b : AbstractLists) where
           let t = settled d _ _ x (one_kept w m y a.image.are a.requests a.ranges) z in
           let s = accepted_step a.image.bytes r a.requests a.ranges m e in
           record {
-            inv = rw (moved_is Accepted e, s) t.inv;
+            inv = rw (moved_is (Ok tt) e, s) t.inv;
             restored = rw s t.restored;
-            stops = rw (moved_is Accepted e, s) t.stops;
+            stops = rw (moved_is (Ok tt) e, s) t.stops;
           }
 
 -- ---- a run
@@ -99,10 +99,10 @@ pub run_state : (n : ℕ) (img : List ℕ) (r : Registers) (xs : List ℕ) (rs :
 unfolding run_from
 run_state n img r xs rs m = by (step_verdict m img (pc r)) refl n
   where
-    by : (v : Verdict) → step_verdict m img (pc r) ≡ v → (n : ℕ) → after_run (run_of n img r xs rs m) ≡ after_run (run_from n img rs (outcome.Made event.Instruction) 0 r xs m)
-    by Accepted e n = rw (run_accepted img r xs rs m n e)
-    by (Refused x) e zero = rw (run_refused img r xs rs m x e 0)
-    by (Refused x) e (suc n) = rw (run_refused img r xs rs m x e (suc n), step_refused img r xs rs m x e)
+    by : (v : Result ⊤ Refusal) → step_verdict m img (pc r) ≡ v → (n : ℕ) → after_run (run_of n img r xs rs m) ≡ after_run (run_from n img rs (outcome.Made event.Instruction) 0 r xs m)
+    by (Ok tt) e n = rw (run_accepted img r xs rs m n e)
+    by (Err x) e zero = rw (run_refused img r xs rs m x e 0)
+    by (Err x) e (suc n) = rw (run_refused img r xs rs m x e (suc n), step_refused img r xs rs m x e)
 
 module _ (L : List Link) where
   pub run_turns : (n : ℕ) (img : Image) (rs : List Range) (last : Outcome) (k : ℕ) (r : Registers) (xs : List ℕ) (m : Memory) (b : AbstractLists) → Inv L (state r m) b → AllQuiet L (run_args n img rs r xs m)

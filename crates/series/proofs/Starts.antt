@@ -17,7 +17,6 @@ use Rattle.contexts.specs.Context.{ul_of}
 use Rattle.contexts.specs.declared.context.Half.{Half}
 use Rattle.contexts.specs.declared.context.Half.TheVariants.{Upper, Lower}
 use Rattle.inputs.specs.Checks.{start_verdict}
-use Rattle.inputs.specs.declared.verdict.Verdict.TheVariants.{Accepted}
 use Rattle.inputs.proofs.Verdicts.{start_says}
 use Rattle.decisions.specs.Valid.{Valid, Bytes}
 use Rattle.series.specs.Abstract.{held, SavedContext, context, AbstractLists, lists, links}
@@ -27,6 +26,7 @@ use Rattle.series.specs.Claim.{end, Stacked, Agree, listed, Follows}
 use Rattle.series.proofs.Frames.{count_both, stacked_leads}
 use Rattle.series.proofs.Invariant.{Inv, same_place}
 use Rattle.series.proofs.Series.{series_turns}
+use Rattle.std.specs.Prelude.{Ok}
 
 -- ---- a list is met in one way
 pub leads_alike : (m : Memory) (ks js : List Link) (l : Link) → Leads m l ks end → Leads m l js end → ks ≡ js
@@ -110,7 +110,7 @@ module _ (s : State) (v : Valid s.registers) (y : Bytes s.memory.bytes) (sound :
       }
 
 -- demand 3, of every state that the code can hold: from a start that all seven rules accept, with any image
-module _ (s : State) (img : List ℕ) (e : start_verdict s.memory img (pc s.registers) (fcx s.registers) (pcxi s.registers) ≡ Accepted) where
+module _ (s : State) (img : List ℕ) (e : start_verdict s.memory img (pc s.registers) (fcx s.registers) (pcxi s.registers) ≡ (Ok tt)) where
   pub follows : Valid s.registers → Bytes s.memory.bytes → Follows s
   follows v y = from_sound s v y (rw e at (start_says s.memory img (pc s.registers) (fcx s.registers) (pcxi s.registers))).1
 

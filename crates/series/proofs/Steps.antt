@@ -15,13 +15,11 @@ use Rattle.memory.proofs.Words.{put_word_byte}
 use Rattle.registers.specs.Registers.{pcxi, fcx}
 use Rattle.registers.specs.declared.Registers.{Registers}
 use Rattle.events.specs.declared.event.Stop.{Stop}
-use Rattle.events.specs.declared.event.Ending.TheVariants.{Stopped}
 use Rattle.fields.specs.Link.{link_of}
 use Rattle.areas.specs.Link.{area_address}
 use Rattle.areas.specs.Place.{place_of}
 use Rattle.areas.specs.Area.{area_at}
 use Rattle.fields.specs.declared.link.Link.{Link}
-use Rattle.areas.specs.declared.link.Place.TheVariants.{At}
 use Rattle.areas.proofs.Places.{never_at, placed_at_lem}
 use Rattle.operations.specs.declared.Store.{Store}
 use Rattle.operations.specs.declared.Store.TheVariants.{StB, StH, StW, StA}
@@ -52,6 +50,7 @@ use Rattle.series.proofs.Frames.{Unchanged, leads_frame, stacked_frame}
 use Rattle.series.proofs.Invariant.{Inv, return_held, return_inv}
 use Rattle.series.proofs.Loads.{loaded_held, named_then}
 use Rattle.series.proofs.Saves.{save_moves}
+use Rattle.std.specs.Prelude.{Err, Some}
 
 -- ---- registers written, but not the heads
 keep_inv : {L : List Link} {r : Registers} {m : Memory} {b : AbstractLists} (quiet : Type 0) (q : Registers) → Inv L (state r m) b → Sound quiet r q → quiet → Inv L (state q m) b
@@ -79,7 +78,7 @@ module _ {L : List Link} {r : Registers} {m : Memory} {b : AbstractLists} (i : I
   n = memory m.windows (stored_of op m.bytes at v)
 
   -- a byte of a listed area is not stored
-  clear : (l : Link) → 1 ≤ count l L → (p : ℕ) → place_of m l ≡ At p → (k : ℕ) → p ≤ k → k < p + 64 → (k < at) ⊎ (at + size_of op ≤ k)
+  clear : (l : Link) → 1 ≤ count l L → (p : ℕ) → place_of m l ≡ Some p → (k : ℕ) → p ≤ k → k < p + 64 → (k < at) ⊎ (at + size_of op ≤ k)
   clear l c p e k a d = by (dec_le at k) (dec_le (at + size_of op) k)
     where
       by : Dec (at ≤ k) → Dec (at + size_of op ≤ k) → (k < at) ⊎ (at + size_of op ≤ k)
@@ -141,7 +140,7 @@ module _ (at : ℕ) (r : Registers) (bytes : List ℕ) (w : Valid r) where
 module _ (half : Half) (then : Registers → Registers) (t : ReturnThen then) (L : List Link) (r : Registers) (m : Memory) (l : HasPrevious half (pcxi r)) where
   pub record Returned (b : AbstractLists) (x : MadeOf) : Type 0 where
     pub inv : Inv L (state x.registers x.memory) (return_one b.saved b)
-    pub stays : (y : Stop) → x.ending ≡ Stopped y → return_one b.saved b ≡ b
+    pub stays : (y : Stop) → x.ending ≡ Err y → return_one b.saved b ≡ b
     pub restores : Restores half x.registers b
 
   returned_by : (fs : List Link) (cs : List SavedContext) → Inv L (state r m) (lists fs cs) → (x : MadeOf) → ReturningCase half then r m x → Returned (lists fs cs) x
@@ -169,7 +168,7 @@ module _ (half : Half) (then : Registers → Registers) (t : ReturnThen then) (L
 -- ---- what is decided
 pub record Moves (L : List Link) (d : Decision) (r : Registers) (b : AbstractLists) (x : MadeOf) : Type 0 where
   pub inv : Inv L (state x.registers x.memory) (moved (list_move_of d r) b)
-  pub stays : (y : Stop) → x.ending ≡ Stopped y → moved (list_move_of d r) b ≡ b
+  pub stays : (y : Stop) → x.ending ≡ Err y → moved (list_move_of d r) b ≡ b
   pub restores : RestoredBy d x.registers b
 
 pub decision_moves : {L : List Link} {r : Registers} {m : Memory} {b : AbstractLists} (quiet : Type 0) → quiet → Inv L (state r m) b → (d : Decision) → DecisionSound quiet r m d → StoreApart L m d

@@ -1,5 +1,5 @@
 -- The claim of demand 3.
-use Rattle.std.specs.Prelude.{ℕ, ◌≤◌, ◌≡◌, List, [], ◌∷◌, ◌++◌}
+use Rattle.std.specs.Prelude.{ℕ, ◌≤◌, ◌≡◌, List, [], ◌∷◌, ◌++◌, Err, Ok, Result, Some, ⊤}
 use Rattle.memory.specs.Memory.{Memory}
 use Rattle.memory.specs.Word.{word_at}
 use Rattle.fields.specs.Pcxi.{pcxi_ul}
@@ -9,17 +9,15 @@ use Rattle.fields.specs.Link.{link_of}
 use Rattle.areas.specs.Place.{place_of}
 use Rattle.areas.specs.Area.{area_at}
 use Rattle.fields.specs.declared.link.Link.{Link}
-use Rattle.areas.specs.declared.link.Place.TheVariants.{At}
 use Rattle.lists.specs.Lists.{Leads, count}
 use Rattle.contexts.specs.Context.{ul_of}
-use Rattle.inputs.specs.declared.verdict.Verdict.{Verdict}
-use Rattle.inputs.specs.declared.verdict.Verdict.TheVariants.{Accepted, Refused}
 use Rattle.execute.specs.Decision.{Decision, Keep, Write, Save, Return}
 use Rattle.machine.specs.declared.answer.Outcome.{Outcome}
 use Rattle.machine.specs.declared.answer.Outcome.TheVariants as outcome
 use Rattle.series.specs.Abstract.{named, held, SavedContext, AbstractLists, links}
 use Rattle.series.specs.Calls.{Call, State, after_all, Args, step_at, all_args}
 use Rattle.series.specs.Conditions.{verdict_at, decision_at, moved_at, moved_all, AllQuiet}
+use Rattle.inputs.specs.declared.verdict.Refusal.{Refusal}
 
 -- link 0 ends a list
 abbrev pub end : Link
@@ -33,7 +31,7 @@ Stacked m w (c ∷ cs) =
     × (c.link.0 ≡ 0 → ⊥)
     × (pcxi_ul w ≡ ul_of c.half)
     × (at : ℕ)
-    × (place_of m c.link ≡ At at)
+    × (place_of m c.link ≡ Some at)
     × (held c.half (area_at m.bytes at) ≡ c.registers)
     × Stacked m (word_at m.bytes at) cs
 
@@ -59,9 +57,9 @@ StopsBy (outcome.Made e) before now = Unit {0}
 StopsBy (outcome.Stopped x) before now = now ≡ before
 StopsBy (outcome.Refused x) before now = now ≡ before
 
-abbrev pub StepBy : Verdict → Args → AbstractLists → Type 0
-StepBy (Refused x) a b = Unit {0}
-StepBy Accepted a b = RestoredBy (decision_at a) (step_at a).registers b
+abbrev pub StepBy : Result ⊤ Refusal → Args → AbstractLists → Type 0
+StepBy (Err x) a b = Unit {0}
+StepBy (Ok tt) a b = RestoredBy (decision_at a) (step_at a).registers b
 
 -- of each step: its return, if it has one, restores; and if it is refused or stopped, the abstract lists are as before
 abbrev pub EachStep : List Args → AbstractLists → Type 0

@@ -2,13 +2,12 @@
 
 #![tactic(auto)]
 
-ghost use Rattle.std.specs.Prelude.{◌≡◌};
+ghost use Rattle.std.specs.Prelude.{◌≡◌, Ok};
 ghost use Rattle.memory.specs.Memory.{lent};
 ghost use Rattle.registers.specs.Registers.{pc, fcx, pcxi};
 ghost use Rattle.words.specs.Exactly.{Exactly};
 ghost use Rattle.inputs.specs.Checks.{start_verdict};
 ghost use Rattle.inputs.specs.Rules.{StartSays};
-ghost use Rattle.inputs.specs.declared.verdict.Verdict.TheVariants as verdict;
 ghost use Rattle.series.specs.Calls.{state};
 ghost use Rattle.series.specs.Claim.{Follows};
 
@@ -24,9 +23,9 @@ pub fn start<'a>(
     window2: &'a [u8],
     image: &[u8],
     registers: Registers,
-) -> Verdict
+) -> Result<(), Refusal>
     ensures verdict { (result ≡ start_verdict (lent base window.now base2 window2.now) image.now (pc registers) (fcx registers) (pcxi registers)) × Exactly (StartSays (lent base window.now base2 window2.now) image.now (pc registers) (fcx registers) (pcxi registers)) result }
-    ensures follows { (result ≡ verdict.Accepted) → Follows (state registers (lent base window.now base2 window2.now)) }
+    ensures follows { (result ≡ (Ok tt)) → Follows (state registers (lent base window.now base2 window2.now)) }
 {
     inputs::checks::try_start(
         base,

@@ -19,10 +19,6 @@ use Rattle.protection.specs.Range.{ranges_in, no_range, lowest_of, PermittedBy, 
 use Rattle.protection.specs.Access.{check_of}
 use Rattle.protection.specs.declared.range.Range.{Range}
 use Rattle.protection.specs.declared.range.Right.TheVariants.{Execute}
-use Rattle.protection.specs.declared.range.Permit.{Permit}
-use Rattle.protection.specs.declared.range.Permit.TheVariants.{Unnamed, By}
-use Rattle.protection.specs.declared.access.Check.{Check}
-use Rattle.protection.specs.declared.access.Check.TheVariants.{Passes, Fails}
 use Rattle.protection.proofs.Ranges.{ranges_at}
 use Rattle.protection.proofs.Searches.{lowest_says, one_of_all, below_upper, onward}
 use Rattle.protection.proofs.Checks.{unasked, allowed, same_check}
@@ -35,7 +31,6 @@ use Rattle.image.specs.declared.marks.Guide.{Guide}
 use Rattle.image.specs.Rules.{ImageRight}
 use Rattle.image.specs.Fetch.{next_after, instruction_at, fetch_of}
 use Rattle.image.specs.declared.fetch.Instruction.{Instruction}
-use Rattle.image.specs.declared.fetch.Fetched.TheVariants.{Nothing}
 use Rattle.image.specs.declared.fetch.Rest.{Rest}
 use Rattle.image.specs.declared.fetch.InBody.{InBody}
 use Rattle.image.proofs.Addresses.{after_none, after_low, after_high, after_rest, after_less, after_join, after_plus}
@@ -51,26 +46,26 @@ use Rattle.decisions.specs.Beginning.{Executes, check_begins, fetching_at}
 use Rattle.decisions.proofs.Beginnings.{fetched_step, executes}
 use Rattle.spans.specs.Spans.{records_below, fetchable_by, fetchable_of, found_of, span_of, begin, IsSpan, index_on, IndexTells, names_in, marked_index, EndsAt, place_after, LiesAhead}
 use Rattle.spans.specs.declared.Span.{Span}
-use Rattle.spans.specs.declared.Ahead.TheVariants.{Records}
 use Rattle.spans.proofs.Holds.{LiesInBody, Lies, SpanHolds, IndexIn, PlaceIn}
+use Rattle.std.specs.Prelude.{Err, None, Ok, Option, Result, Some, ⊤}
 
 -- ---- of the records from pc on, those that protection lets be fetched
 -- of `most` records from pc on, whatever their lengths, the first n pass the fetch's check
 pub record Fetchable (core : List ℕ) (rs : List Range) (pc most n : ℕ) : Type 0 where
   pub some : 0 < n
   pub within : n ≤ most
-  pub passes : (a : ℕ) → pc ≤ a → a + 4 ≤ pc + 4 * n → a < 0xE000_0000 → check_of core rs Execute (as_address a) ≡ Passes
+  pub passes : (a : ℕ) → pc ≤ a → a + 4 ≤ pc + 4 * n → a < 0xE000_0000 → check_of core rs Execute (as_address a) ≡ (Ok tt)
 
 module _ (core : List ℕ) (rs : List Range) (pc most : ℕ) (n0 : 0 < most) where
   all_unasked : syscon_proten (get_or core 9 0) ≡ false → Fetchable core rs pc most most
   all_unasked p = record { some = n0; within = omega arith; passes = λ a l h b. sym (unasked core rs Execute (as_address a) (lt-leb _ _ b) p) }
 
-  the_first : check_of core rs Execute (as_address pc) ≡ Passes → Fetchable core rs pc most 1
+  the_first : check_of core rs Execute (as_address pc) ≡ (Ok tt) → Fetchable core rs pc most 1
   the_first p =
       record {
         some = omega arith;
         within = n0;
-        passes = λ a l h b. let e : pc ≡ a = omega arith in subst (λ (a : ℕ). check_of core rs Execute (as_address a) ≡ Passes) e p;
+        passes = λ a l h b. let e : pc ≡ a = omega arith in subst (λ (a : ℕ). check_of core rs Execute (as_address a) ≡ (Ok tt)) e p;
       }
 
   -- below the upper bound of a range that permits the first
@@ -82,13 +77,13 @@ module _ (core : List ℕ) (rs : List Range) (pc most : ℕ) (n0 : 0 < most) whe
         passes = λ x l h b. sym (allowed core rs Execute (as_address x) k (lt-leb _ _ b) p (onward rs (psw_prs (get_or core 1 0)) Execute (as_address pc) k a (as_address x) l (omega arith)));
       }
 
-  pub fetchable_says : check_of core rs Execute (as_address pc) ≡ Passes → Fetchable core rs pc most (fetchable_of core rs pc most)
+  pub fetchable_says : check_of core rs Execute (as_address pc) ≡ (Ok tt) → Fetchable core rs pc most (fetchable_of core rs pc most)
   unfolding fetchable_of
   fetchable_says h = by (syscon_proten (get_or core 9 0)) refl
     where
-      by_permit : syscon_proten (get_or core 9 0) ≡ true → (p : Permit) → Lowest rs (psw_prs (get_or core 1 0)) Execute (as_address pc) p → Fetchable core rs pc most (fetchable_by rs pc most p)
-      by_permit e (By k) l = let u = below_upper rs (psw_prs (get_or core 1 0)) Execute (as_address pc) k l.one in by_range k (fetchable_by rs pc most (By k)) e l.one (omega arith) (omega arith) (omega arith)
-      by_permit e Unnamed l = the_first h
+      by_permit : syscon_proten (get_or core 9 0) ≡ true → (p : Option ℕ) → Lowest rs (psw_prs (get_or core 1 0)) Execute (as_address pc) p → Fetchable core rs pc most (fetchable_by rs pc most p)
+      by_permit e (Some k) l = let u = below_upper rs (psw_prs (get_or core 1 0)) Execute (as_address pc) k l.one in by_range k (fetchable_by rs pc most (Some k)) e l.one (omega arith) (omega arith) (omega arith)
+      by_permit e None l = the_first h
 
       by : (b : Bool) → syscon_proten (get_or core 9 0) ≡ b → Fetchable core rs pc most (cond b (fetchable_by rs pc most (lowest_of rs (psw_prs (get_or core 1 0)) Execute (as_address pc))) most)
       by true e = by_permit e (lowest_of rs (psw_prs (get_or core 1 0)) Execute (as_address pc)) (lowest_says rs Execute (as_address pc) (psw_prs (get_or core 1 0)))
@@ -100,7 +95,7 @@ module _ (core : List ℕ) (rs : List Range) (pc most : ℕ) where
   unfolding fetchable_of
   fetch_all e = rw e
 
-  pub fetch_by_lem : (p : Permit) → syscon_proten (get_or core 9 0) ≡ true → p ≡ lowest_of rs (psw_prs (get_or core 1 0)) Execute (as_address pc) → fetchable_by rs pc most p ≡ fetchable_of core rs pc most
+  pub fetch_by_lem : (p : Option ℕ) → syscon_proten (get_or core 9 0) ≡ true → p ≡ lowest_of rs (psw_prs (get_or core 1 0)) Execute (as_address pc) → fetchable_by rs pc most p ≡ fetchable_of core rs pc most
   unfolding fetchable_of
   fetch_by_lem p e q = rw (e, ← q)
 
@@ -116,14 +111,14 @@ module _ (ws core : List ℕ) (address : Address) (k : ℕ) (a : PermittedBy (ra
   below_bound = rw upper_is (below_upper (ranges_in ws) (psw_prs (get_or core 1 0)) Execute address k a)
 
 -- the number below the upper bound of the range named, as the words have it
-module _ (ws core : List ℕ) (pc most k below : ℕ) (p : syscon_proten (get_or core 9 0) ≡ true) (q : By k ≡ lowest_of (ranges_in ws) (psw_prs (get_or core 1 0)) Execute (as_address pc)) (is : below ≡ records_below (get_or ws (3 * k + 1) 0) pc) where
+module _ (ws core : List ℕ) (pc most k below : ℕ) (p : syscon_proten (get_or core 9 0) ≡ true) (q : Some k ≡ lowest_of (ranges_in ws) (psw_prs (get_or core 1 0)) Execute (as_address pc)) (is : below ≡ records_below (get_or ws (3 * k + 1) 0) pc) where
   pub fetch_least : (r : ℕ) → r ≡ min below most → r ≡ fetchable_of core (ranges_in ws) pc most
   fetch_least r e =
       let rs = ranges_in ws in
       let set = psw_prs (get_or core 1 0) in
-      let l : Lowest rs set Execute (as_address pc) (By k) = subst (Lowest rs set Execute (as_address pc)) (sym q) (lowest_says rs Execute (as_address pc) set) in
-      let same : min below most ≡ fetchable_by rs pc most (By k) = rw (is, upper_is ws core (as_address pc) k l.one) in
-      e ∙ same ∙ fetch_by_lem core rs pc most (By k) p q
+      let l : Lowest rs set Execute (as_address pc) (Some k) = subst (Lowest rs set Execute (as_address pc)) (sym q) (lowest_says rs Execute (as_address pc) set) in
+      let same : min below most ≡ fetchable_by rs pc most (Some k) = rw (is, upper_is ws core (as_address pc) k l.one) in
+      e ∙ same ∙ fetch_by_lem core rs pc most (Some k) p q
 
 -- ---- the span at pc
 module _ (img : List ℕ) (g : ImageRight img) (long : Bool) (pc : ℕ) (b : InBody) (is : b ≡ found_of img long pc) (h : 0 < b.rest.records) where
@@ -209,11 +204,11 @@ module _ {img : List ℕ} {long : Bool} {s : Span} (y : IsSpan img long s) where
 
 -- ---- the traps of the fetch
 module _ (img core : List ℕ) (rs : List Range) where
-  pub ahead_denied : (t : Trap) → Fails t ≡ check_of core rs Execute (as_address (get_or core 0 0)) → fetching_at img core rs (get_or core 0 0) ≡ beginning.Traps t
+  pub ahead_denied : (t : Trap) → Err t ≡ check_of core rs Execute (as_address (get_or core 0 0)) → fetching_at img core rs (get_or core 0 0) ≡ beginning.Traps t
   unfolding fetching_at
   ahead_denied t h = rw (← h)
 
-  pub ahead_nothing : Passes ≡ check_of core rs Execute (as_address (get_or core 0 0)) → Nothing ≡ fetch_of img (get_or core 0 0) → fetching_at img core rs (get_or core 0 0) ≡ beginning.Traps CODE
+  pub ahead_nothing : (Ok tt) ≡ check_of core rs Execute (as_address (get_or core 0 0)) → None ≡ fetch_of img (get_or core 0 0) → fetching_at img core rs (get_or core 0 0) ≡ beginning.Traps CODE
   unfolding fetching_at
   ahead_nothing h n = rw (← h, ← n)
 
@@ -224,12 +219,12 @@ never_executes e = let z : ◌≡◌ {A = ℕ} 0 1 = cc in omega arith
 module _ (img core : List ℕ) (rs : List Range) where
   -- an instruction is fetched at PC: its fetch passes the check, and a record begins there
   module _ {i : Instruction} (h : fetching_at img core rs (get_or core 0 0) ≡ Executes i) where
-    fetch_passes : check_of core rs Execute (as_address (get_or core 0 0)) ≡ Passes
+    fetch_passes : check_of core rs Execute (as_address (get_or core 0 0)) ≡ (Ok tt)
     fetch_passes = by (check_of core rs Execute (as_address (get_or core 0 0))) refl
       where
-        by : (c : Check) → check_of core rs Execute (as_address (get_or core 0 0)) ≡ c → c ≡ Passes
-        by Passes e = refl
-        by (Fails t) e = absurd (never_executes (sym (ahead_denied img core rs t (sym e)) ∙ h))
+        by : (c : Result ⊤ Trap) → check_of core rs Execute (as_address (get_or core 0 0)) ≡ c → c ≡ (Ok tt)
+        by (Ok tt) e = refl
+        by (Err t) e = absurd (never_executes (sym (ahead_denied img core rs t (sym e)) ∙ h))
 
     fetch_finds : 0 < (rest_of img (get_or core 0 0)).records
     fetch_finds = by (lt_or_ge 0 (rest_of img (get_or core 0 0)).records)
@@ -238,7 +233,7 @@ module _ (img core : List ℕ) (rs : List Range) where
         by (inl l) = l
         by (inr l) = absurd (never_executes (sym (ahead_nothing img core rs (sym fetch_passes) (fetch_none img (get_or core 0 0) (omega arith))) ∙ h))
 
-  module _ (long : Bool) (s : Span) (right : ImageHolds img) (p : long ≡ true → long_only img ≡ true) (passes : check_of core rs Execute (as_address (get_or core 0 0)) ≡ Passes) (any : 0 < (rest_of img (get_or core 0 0)).records)
+  module _ (long : Bool) (s : Span) (right : ImageHolds img) (p : long ≡ true → long_only img ≡ true) (passes : check_of core rs Execute (as_address (get_or core 0 0)) ≡ (Ok tt)) (any : 0 < (rest_of img (get_or core 0 0)).records)
       (is : s ≡ span_of img long (get_or core 0 0) (fetchable_of core rs (get_or core 0 0) (rest_of img (get_or core 0 0)).records)) where
     reaches : Fetchable core rs (get_or core 0 0) (rest_of img (get_or core 0 0)).records (fetchable_of core rs (get_or core 0 0) (rest_of img (get_or core 0 0)).records)
     reaches = fetchable_says core rs (get_or core 0 0) (rest_of img (get_or core 0 0)).records any passes
@@ -272,7 +267,7 @@ module _ (img core : List ℕ) (rs : List Range) where
         rw (z, after_none img s.at s.from, from_pc) at (ahead_holds.fetched 0 ahead_spans.some)
 
   -- what is known of the records that lie ahead
-  pub ahead_known : (long : Bool) (s : Span) → ImageHolds img → (long ≡ true → long_only img ≡ true) → LiesAhead img long core rs (Records s) → SpanHolds img long core rs s × (s.from ≡ get_or core 0 0)
+  pub ahead_known : (long : Bool) (s : Span) → ImageHolds img → (long ≡ true → long_only img ≡ true) → LiesAhead img long core rs (Ok s) → SpanHolds img long core rs s × (s.from ≡ get_or core 0 0)
   ahead_known long s right p (h, is) =
       (ahead_holds long s right p (fetch_passes h) (fetch_finds h) is, from_pc long s right p (fetch_passes h) (fetch_finds h) is)
 
@@ -287,7 +282,7 @@ module _ {img : List ℕ} (r : Registers) {rs : List Range} {long : Bool} {s : S
   span_steady q x =
       record {
         fetched = λ j l.
-            ap (λ (c : Check). check_begins c (fetch_of img (begin img s j)))
+            ap (λ (c : Result ⊤ Trap). check_begins c (fetch_of img (begin img s j)))
             (same_check r.core rs Execute (as_address (begin img s j)) q.core (omega (arith, h.lies.below, after_less j s.records img s.at s.from (omega arith))) (ap (λ (c : Control). syscon_proten c.syscon) x.same) (ap (λ (c : Control). c.prs) x.same))
             ∙ h.fetched j l;
         fields = h.fields;

@@ -1,5 +1,5 @@
 -- Records that are fetched one after the other without a trap.
-use Rattle.std.specs.Prelude.{◌≡◌, ℕ, ◌+◌, ◌-◌, ◌*◌, ◌/◌, ◌<◌, ◌≤◌, min, Bool, true, false, cond, ◌&&◌, List, ◌==◌, nat_le, nat_lt, slice_index, slice_index_or}
+use Rattle.std.specs.Prelude.{◌≡◌, ℕ, ◌+◌, ◌-◌, ◌*◌, ◌/◌, ◌<◌, ◌≤◌, min, Bool, true, false, cond, ◌&&◌, List, ◌==◌, nat_le, nat_lt, slice_index, slice_index_or, Err, None, Ok, Option, Result, Some}
 use Rattle.memory.specs.Address.{as_address}
 use Rattle.fields.specs.Psw.{psw_prs}
 use Rattle.fields.specs.Syscon.{syscon_proten}
@@ -7,8 +7,6 @@ use Rattle.registers.specs.Core.{PC, PSW, SYSCON}
 use Rattle.protection.specs.Range.{no_range, lowest_of}
 use Rattle.protection.specs.declared.range.Range.{Range}
 use Rattle.protection.specs.declared.range.Right.TheVariants.{Execute}
-use Rattle.protection.specs.declared.range.Permit.{Permit}
-use Rattle.protection.specs.declared.range.Permit.TheVariants.{Unnamed, By}
 use Rattle.image.specs.Lengths.{address_after}
 use Rattle.image.specs.Table.{entry_at}
 use Rattle.image.specs.Records.{ImageHolds}
@@ -20,17 +18,16 @@ use Rattle.image.specs.declared.fetch.InBody.{InBody}
 use Rattle.decisions.specs.Beginning as beginning
 use Rattle.decisions.specs.Beginning.{Executes, fetching_at}
 use Rattle.spans.specs.declared.Span.{Span}
-use Rattle.spans.specs.declared.Ahead.{Ahead}
-use Rattle.spans.specs.declared.Ahead.TheVariants.{Records, Traps}
+use Rattle.events.specs.declared.trap.Trap.{Trap}
 
 -- how many records from pc on begin below an address, whatever their lengths: each is counted as a long one, of 4 addresses
 abbrev pub records_below : ℕ → ℕ → ℕ
 records_below upper pc = (upper - pc + 3) / 4
 
 -- of `most` records from pc on those below the upper bound of the range named; where none is named, the first alone
-abbrev pub fetchable_by : List Range → ℕ → ℕ → Permit → ℕ
-fetchable_by rs pc most (By k) = min (records_below (slice_index_or rs k no_range).upper pc) most
-fetchable_by rs pc most Unnamed = 1
+abbrev pub fetchable_by : List Range → ℕ → ℕ → Option ℕ → ℕ
+fetchable_by rs pc most (Some k) = min (records_below (slice_index_or rs k no_range).upper pc) most
+fetchable_by rs pc most None = 1
 
 -- of `most` records from pc on, of which the first passes the fetch's check, how many surely pass it: all where protection is off; otherwise as far as the lowest range that permits the first
 unfoldable pub fetchable_of : List ℕ → List Range → ℕ → ℕ → ℕ
@@ -93,8 +90,8 @@ place_after img guide marks s at next pc =
     cond guide.long s.end (cond (pc == next) (at + 8) (s.at + 8 * marked_index img guide.shift marks s pc))
 
 -- what lies at PC: the trap of the fetch, or the span of the records that surely pass its check
-abbrev pub LiesAhead : List ℕ → Bool → List ℕ → List Range → Ahead → Type 0
-LiesAhead img long core rs (Traps t) = fetching_at img core rs (slice_index core PC) ≡ beginning.Traps t
-LiesAhead img long core rs (Records s) =
+abbrev pub LiesAhead : List ℕ → Bool → List ℕ → List Range → Result Span Trap → Type 0
+LiesAhead img long core rs (Err t) = fetching_at img core rs (slice_index core PC) ≡ beginning.Traps t
+LiesAhead img long core rs (Ok s) =
     let pc = slice_index_or core PC 0 in
     (fetching_at img core rs pc ≡ Executes (instruction_at img s.at pc)) × (s ≡ span_of img long pc (fetchable_of core rs pc (rest_of img pc).records))

@@ -4,11 +4,10 @@
 
 pub mod index;
 
-ghost use Rattle.std.specs.Prelude.{◌≡◌, ◌<◌, ◌≤◌};
+ghost use Rattle.std.specs.Prelude.{◌≡◌, ◌<◌, ◌≤◌, Ok};
 ghost use Rattle.memory.specs.Address.{as_address};
 ghost use Rattle.protection.specs.Range.{ranges_in};
 ghost use Rattle.protection.specs.Access.{check_of};
-ghost use Rattle.protection.specs.declared.access.Check.TheVariants.{Passes};
 ghost use Rattle.image.specs.Records.{ImageHolds};
 ghost use Rattle.image.specs.Marks.{Guides};
 ghost use Rattle.spans.specs.Spans.{records_below, fetchable_of, found_of, span_of, LiesAhead};
@@ -52,7 +51,7 @@ fn records_below(upper: u32, pc: u32) -> u32
 
 // Of so many records from pc on, how many protection lets be fetched, where it lets the first.
 fn fetchable(core: &[u32; CORE], words: &[u32; 96], pc: u32, records: u32) -> u32
-    requires { (check_of core.now (ranges_in words.now) Right.Execute (as_address pc) ≡ Passes) × (0 < records) }
+    requires { (check_of core.now (ranges_in words.now) Right.Execute (as_address pc) ≡ (Ok tt)) × (0 < records) }
     ensures { result ≡ fetchable_of core.now (ranges_in words.now) pc records }
 {
     if !fields::syscon::protection(core[SYSCON]) {
@@ -64,8 +63,8 @@ fn fetchable(core: &[u32; CORE], words: &[u32; 96], pc: u32, records: u32) -> u3
         Right::Execute,
         as_address(pc),
     ) {
-        Permit::Unnamed => 1,
-        Permit::By(k) => {
+        None => 1,
+        Some(k) => {
             let below = records_below(words[3 * k + 1], pc);
             if below < records {
                 return below;
@@ -127,21 +126,21 @@ pub fn look_ahead(
     marks: &[u64],
     core: &[u32; CORE],
     words: &[u32; 96],
-) -> Ahead
+) -> Result<Span, Trap>
     requires { ImageHolds image.now × Guides image.now guide marks.now }
     ensures { LiesAhead image.now guide.long core.now (ranges_in words.now) result }
 {
     let pc = core[PC];
     match check_access(core, words, Right::Execute, as_address(pc)) {
-        Check::Fails(t) => Ahead::Traps(t),
-        Check::Passes => {
+        Err(t) => Err(t),
+        Check::(Ok tt) => {
             let found = rest_guided(image, guide, marks, pc);
             let rest = found.rest;
             if rest.records == 0 {
-                return Ahead::Traps(CODE);
+                return Err(CODE);
             }
             let n = fetchable(core, words, pc, rest.records);
-            Ahead::Records(span_of(image, guide.long, found, pc, n))
+            Ok(span_of(image, guide.long, found, pc, n))
         }
     }
 }

@@ -17,8 +17,6 @@ use Rattle.registers.specs.Registers.{pc, fcx, pcxi}
 use Rattle.registers.specs.declared.Registers.{Registers}
 use Rattle.inputs.specs.Checks.{start_verdict}
 use Rattle.inputs.specs.declared.verdict.Refusal.{Refusal}
-use Rattle.inputs.specs.declared.verdict.Verdict.{Verdict}
-use Rattle.inputs.specs.declared.verdict.Verdict.TheVariants.{Accepted, Refused}
 use Rattle.decisions.proofs.Owned.{field_long}
 use Rattle.walk.specs.Start.{window_of, start_bytes, start_registers}
 use Rattle.walk.specs.Text.{header_text, refused_of, long_text}
@@ -30,6 +28,7 @@ use Rattle.walk.proofs.Texts.{front}
 use Rattle.walk.proofs.Wholes.{with_rest, begin_whole, next_whole}
 use Rattle.walk.proofs.Walks.{Done}
 use Rattle.walk.specs.contracts.blocks.Walk as row
+use Rattle.std.specs.Prelude.{Err, Ok, Result, ⊤}
 
 -- ---- any block: left as defined, and a part of what is due
 abbrev pub Told : Block → List ℕ → List ℕ → Walk → List ℕ → List ℕ → Type 0
@@ -52,18 +51,18 @@ module _ (img w : List ℕ) (r : Registers) (f : w ≡ start_bytes) (e : r ≡ s
   abbrev start : Bool → List ℕ → Block
   start over text = block w r (replicate 16 0) 0 over text
 
-  abbrev verdict : Verdict
+  abbrev verdict : Result ⊤ Refusal
   verdict = start_verdict (window_of w) img (pc r) (fcx r) (pcxi r)
 
   begin_long : longest < length img → begin_of img ≡ start true long_text
   unfolding begin_of
   begin_long h = rw (lt-ltb longest (length img) h, e, f)
 
-  begin_refused : length img ≤ longest → (x : Refusal) → verdict ≡ Refused x → begin_of img ≡ start true (refused_of x)
+  begin_refused : length img ≤ longest → (x : Refusal) → verdict ≡ Err x → begin_of img ≡ start true (refused_of x)
   unfolding begin_of
   begin_refused h x g = let k = rw (f, e) at g in rw (le-ltb longest (length img) h, k, e, f)
 
-  begin_accepted : length img ≤ longest → verdict ≡ Accepted → begin_of img ≡ start false header_text
+  begin_accepted : length img ≤ longest → verdict ≡ (Ok tt) → begin_of img ≡ start false header_text
   unfolding begin_of
   begin_accepted h g = let k = rw (f, e) at g in rw (le-ltb longest (length img) h, k, e, f)
 
@@ -74,10 +73,10 @@ module _ (img w : List ℕ) (r : Registers) (f : w ≡ start_bytes) (e : r ≡ s
     pub begun_long : longest < length img → Written out₀ 0 long_text most out at → Begun true out₀ out at
     begun_long h k = tells img (begin_long h) k _ (begin_whole img)
 
-    pub begun_refused : length img ≤ longest → (x : Refusal) → verdict ≡ Refused x → Written out₀ 0 (refused_of x) most out at → Begun true out₀ out at
+    pub begun_refused : length img ≤ longest → (x : Refusal) → verdict ≡ Err x → Written out₀ 0 (refused_of x) most out at → Begun true out₀ out at
     begun_refused h x g k = tells img (begin_refused h x g) k _ (begin_whole img)
 
-    pub begun_accepted : length img ≤ longest → verdict ≡ Accepted → Written out₀ 0 header_text most out at → Begun false out₀ out at
+    pub begun_accepted : length img ≤ longest → verdict ≡ (Ok tt) → Written out₀ 0 header_text most out at → Begun false out₀ out at
     begun_accepted h g k = tells img (begin_accepted h g) k _ (begin_whole img)
 
 -- ---- the next one

@@ -11,13 +11,13 @@ use lib.Seq.{take_all, length-take-le}
 use borrow.Author.Tests.{lt-ltb, ltb-true, ltb-false}
 use Rattle.registers.specs.Registers.{pc}
 use Rattle.registers.specs.declared.Registers.{Registers}
-use Rattle.inputs.specs.declared.verdict.Verdict.{Verdict}
-use Rattle.inputs.specs.declared.verdict.Verdict.TheVariants.{Accepted, Refused}
 use Rattle.walk.specs.Start.{start_verdict_of}
 use Rattle.walk.specs.Text.{end_of, refused_of, long_text}
 use Rattle.walk.specs.Walk.{longest, all_steps, is_last, step_from, printed, walk_from, walk_by, walk_of}
 use Rattle.walk.specs.Blocks.{Block, block, first_block, begin_by, begin_of, full, made_by, block_from, go_on_of, remaining}
 use Rattle.walk.specs.declared.blocks.Walk.{Walk}
+use Rattle.std.specs.Prelude.{Err, Ok, Result, ⊤}
+use Rattle.inputs.specs.declared.verdict.Refusal.{Refusal}
 
 -- a block's text, followed by what is printed after it
 abbrev pub with_rest : List ℕ → Block → List ℕ
@@ -32,12 +32,12 @@ unfolding remaining
 rest_more img r xs w made text = refl
 
 -- ---- the first block
-by_verdict : (img : List ℕ) (v : Verdict) → with_rest img (begin_by img v) ≡ walk_by img v
+by_verdict : (img : List ℕ) (v : Result ⊤ Refusal) → with_rest img (begin_by img v) ≡ walk_by img v
 unfolding remaining
-by_verdict img (Refused x) = append-nil (refused_of x)
-by_verdict img Accepted = refl
+by_verdict img (Err x) = append-nil (refused_of x)
+by_verdict img (Ok tt) = refl
 
-by_length : (img : List ℕ) (long : Bool) (v : Verdict) → with_rest img (cond long (first_block img true long_text) (begin_by img v)) ≡ cond long long_text (walk_by img v)
+by_length : (img : List ℕ) (long : Bool) (v : Result ⊤ Refusal) → with_rest img (cond long (first_block img true long_text) (begin_by img v)) ≡ cond long long_text (walk_by img v)
 unfolding remaining
 by_length img true v = append-nil long_text
 by_length img false v = by_verdict img v

@@ -1,16 +1,15 @@
 -- A walk in blocks of output: what each function leaves, and what is promised of the blocks together.
-use Rattle.std.specs.Prelude.{ℕ, zero, suc, ◌+◌, ◌-◌, ◌<◌, ◌≤◌, ◌≡◌, Bool, true, false, cond, List, [], ◌++◌, length, take, replicate, ltb}
+use Rattle.std.specs.Prelude.{ℕ, zero, suc, ◌+◌, ◌-◌, ◌<◌, ◌≤◌, ◌≡◌, Bool, true, false, cond, List, [], ◌++◌, length, take, replicate, ltb, Err, Ok, Result, ⊤}
 use Rattle.std.proofs.lemmas.List.Edits.{sets}
 use Rattle.registers.specs.Registers.{pc}
 use Rattle.registers.specs.declared.Registers.{Registers}
-use Rattle.inputs.specs.declared.verdict.Verdict.{Verdict}
-use Rattle.inputs.specs.declared.verdict.Verdict.TheVariants as verdict
 use Rattle.machine.specs.declared.answer.Outcome.{Outcome}
 use Rattle.machine.specs.declared.answer.Outcome.TheVariants.{Made, Stopped, Refused}
 use Rattle.walk.specs.Start.{start_bytes, start_registers, start_verdict_of}
 use Rattle.walk.specs.Text.{header_text, end_of, refused_of, long_text}
 use Rattle.walk.specs.Walk.{longest, all_steps, is_last, step_from, printed, walk_from}
 use Rattle.walk.specs.declared.blocks.Walk.{Walk}
+use Rattle.inputs.specs.declared.verdict.Refusal.{Refusal}
 
 -- a block: where the walk stands after it, and its text
 pub record Block : Type 0 where
@@ -38,9 +37,9 @@ placed b out = left b.walk (sets out 0 b.text)
 abbrev pub first_block : List ℕ → Bool → List ℕ → Block
 first_block img over text = block start_bytes (start_registers img) (replicate 16 0) 0 over text
 
-abbrev pub begin_by : List ℕ → Verdict → Block
-begin_by img (verdict.Refused x) = first_block img true (refused_of x)
-begin_by img verdict.Accepted = first_block img false header_text
+abbrev pub begin_by : List ℕ → Result ⊤ Refusal → Block
+begin_by img (Err x) = first_block img true (refused_of x)
+begin_by img (Ok tt) = first_block img false header_text
 
 unfoldable pub begin_of : List ℕ → Block
 begin_of img = cond (ltb longest (length img)) (first_block img true long_text) (begin_by img (start_verdict_of img))

@@ -1,13 +1,13 @@
 -- The start of a walk: window D0000000 of 4,096 bytes, its 64 areas linked ascending from FCX D0000, and no second one.
-use Rattle.std.specs.Prelude.{ℕ, zero, suc, ◌+◌, ◌*◌, cond, List, [], ◌∷◌, length, replicate, ltb, leb}
+use Rattle.std.specs.Prelude.{ℕ, zero, suc, ◌+◌, ◌*◌, cond, List, [], ◌∷◌, length, replicate, ltb, leb, Result, ⊤}
 use Rattle.memory.specs.Address.{as_address}
 use Rattle.memory.specs.Word.{word_at, put_word}
 use Rattle.memory.specs.Memory.{windows, Memory, memory}
 use Rattle.registers.specs.Registers.{registers, pc, fcx, pcxi}
 use Rattle.registers.specs.declared.Registers.{Registers}
 use Rattle.inputs.specs.Checks.{start_verdict}
-use Rattle.inputs.specs.declared.verdict.Verdict.{Verdict}
 use Rattle.protection.specs.declared.range.Range.{Range}
+use Rattle.inputs.specs.declared.verdict.Refusal.{Refusal}
 
 -- area k's first word is the link of the next area; the last one's is 0
 unfoldable pub link_after : ℕ → ℕ
@@ -35,7 +35,7 @@ start_registers img =
     registers (replicate 16 0) (replicate 16 0) (first_address img ∷ 0xB80 ∷ 0 ∷ 0xD_0000 ∷ 0 ∷ 0 ∷ 0 ∷ 0 ∷ 0x8001_0000 ∷ 0 ∷ [])
 
 -- the seven rules of a start, tried with these
-abbrev pub start_verdict_of : List ℕ → Verdict
+abbrev pub start_verdict_of : List ℕ → Result ⊤ Refusal
 start_verdict_of img = let r = start_registers img in start_verdict (window_of start_bytes) img (pc r) (fcx r) (pcxi r)
 
 unfoldable pub no_ranges : List Range

@@ -1,16 +1,15 @@
 -- What a walk prints, whole: it is defined by the steps.
-use Rattle.std.specs.Prelude.{ℕ, zero, suc, ◌+◌, Bool, true, false, cond, List, [], ◌++◌, length, replicate, ltb}
+use Rattle.std.specs.Prelude.{ℕ, zero, suc, ◌+◌, Bool, true, false, cond, List, [], ◌++◌, length, replicate, ltb, Err, Ok, Result, ⊤}
 use Rattle.registers.specs.Registers.{pc, fcx, pcxi}
 use Rattle.registers.specs.declared.Registers.{Registers}
 use Rattle.events.specs.declared.event.Event.{Event}
 use Rattle.events.specs.declared.event.Event.TheVariants.{Instruction, Interrupt, Trap}
-use Rattle.inputs.specs.declared.verdict.Verdict.{Verdict}
-use Rattle.inputs.specs.declared.verdict.Verdict.TheVariants as verdict
 use Rattle.machine.specs.Step.{StepOf, step_of}
 use Rattle.machine.specs.declared.answer.Outcome.{Outcome}
 use Rattle.machine.specs.declared.answer.Outcome.TheVariants.{Made, Stopped, Refused}
 use Rattle.walk.specs.Start.{window_of, start_bytes, start_registers, start_verdict_of, no_ranges}
 use Rattle.walk.specs.Text.{header_text, line_of, stop_of, end_of, refused_of, long_text}
+use Rattle.inputs.specs.declared.verdict.Refusal.{Refusal}
 
 -- bytes of the longest image
 abbrev pub longest : ℕ
@@ -49,9 +48,9 @@ walk_from (suc n) img made r xs w =
     let s = step_from img r xs w in
     printed s.outcome made (pc r) s.registers ++ cond (is_last s.outcome) [] (walk_from n img (made + 1) s.registers s.requests s.memory.bytes)
 
-abbrev pub walk_by : List ℕ → Verdict → List ℕ
-walk_by img (verdict.Refused x) = refused_of x
-walk_by img verdict.Accepted = header_text ++ walk_from all_steps img 0 (start_registers img) (replicate 16 0) start_bytes
+abbrev pub walk_by : List ℕ → Result ⊤ Refusal → List ℕ
+walk_by img (Err x) = refused_of x
+walk_by img (Ok tt) = header_text ++ walk_from all_steps img 0 (start_registers img) (replicate 16 0) start_bytes
 
 -- what the program prints for an image
 unfoldable pub walk_of : List ℕ → List ℕ

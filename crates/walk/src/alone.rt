@@ -17,7 +17,7 @@ use registers::Registers;
 // Any address: the second window has no bytes.
 const NONE: Address = Address(0);
 
-pub fn try_alone(window: &[u8], image: &[u8], pc: u32, fcx: u32, pcxi: u32) -> Verdict
+pub fn try_alone(window: &[u8], image: &[u8], pc: u32, fcx: u32, pcxi: u32) -> Result<(), Refusal>
     ensures { result ≡ start_verdict (window_of window.now) image.now pc fcx pcxi }
 {
     let none = [0; 0];

@@ -64,7 +64,7 @@ pub fn begin(image: &[u8], out: &mut [u8; 65536]) -> Walk
         registers.core[FCX],
         registers.core[PCXI],
     ) {
-        Verdict::Refused(x) => {
+        Err(x) => {
             let refused = put_refused(out, 0, x);
             return Walk {
                 window: window,
@@ -75,7 +75,7 @@ pub fn begin(image: &[u8], out: &mut [u8; 65536]) -> Walk
                 len: refused,
             };
         }
-        Verdict::Accepted => {}
+        Ok(()) => {}
     }
     let header = put_header(out, 0);
     Walk {

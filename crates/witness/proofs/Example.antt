@@ -28,7 +28,6 @@ use Rattle.image.specs.Records.{record_holds, records_from, image_of}
 use Rattle.image.specs.Rest.{body_walk, rest_from, rest_of}
 use Rattle.image.specs.Fetch.{instruction_at, fetch_of}
 use Rattle.inputs.specs.Checks.{window_holds, second_holds, apart_holds, windows_verdict, step_verdict, start_verdict}
-use Rattle.inputs.specs.declared.verdict.Verdict.TheVariants.{Accepted}
 use Rattle.accesses.specs.Reach.{aligned_reach, reach_of}
 use Rattle.accesses.specs.Store.{store_of}
 use Rattle.calls.specs.Saves.{called_then, call_of, svlcx_of, bisr_then, bisr_of}
@@ -47,8 +46,9 @@ use Rattle.witness.specs.Start.{start}
 use Rattle.witness.specs.Series.{interrupted, saving_calls, returning_calls, calls}
 use Rattle.witness.specs.Lists.{begun, depleted, all_free, ended}
 use Rattle.witness.specs.Witness.{spots, outcomes, happening, loaded}
+use Rattle.std.specs.Prelude.{Ok}
 
-pub accepted : start_verdict start.memory interrupted.bytes (pc start.registers) (fcx start.registers) (pcxi start.registers) ≡ Accepted
+pub accepted : start_verdict start.memory interrupted.bytes (pc start.registers) (fcx start.registers) (pcxi start.registers) ≡ (Ok tt)
 unfolding word_at placed_at spot_at placed_in list_walk lists_of entry_at address_after length_of operation_number entry_fits entries_from table_of record_holds records_from image_of window_holds second_holds apart_holds windows_verdict step_verdict start_verdict
 accepted = refl
 

@@ -16,7 +16,6 @@ use Rattle.memory.specs.Memory.{Memory}
 use Rattle.memory.specs.Word.{word_at, words_at, put_word, put_words}
 use Rattle.registers.specs.Registers.{plus_of}
 use Rattle.fields.specs.declared.link.Link.{Link}
-use Rattle.areas.specs.declared.link.Place.TheVariants.{At}
 use Rattle.areas.specs.Place.{placed_at, spot_at, placed_in, place_of}
 use Rattle.lists.specs.Lists.{count}
 use Rattle.lists.proofs.Counts.{same?, one_other}
@@ -54,17 +53,18 @@ use Rattle.series.proofs.Invariant.{same_place}
 use Rattle.witness.specs.Start.{start}
 use Rattle.witness.specs.Series.{calls}
 use Rattle.witness.specs.Lists.{begun}
+use Rattle.std.specs.Prelude.{Some}
 
 -- the areas of the links end at byte e
 abbrev pub Before : Memory → ℕ → List Link → Type 0
 Before m e [] = Unit {0}
-Before m e (k ∷ ks) = ((at : ℕ) × (place_of m k ≡ At at) × (at + 64 ≤ e)) × Before m e ks
+Before m e (k ∷ ks) = ((at : ℕ) × (place_of m k ≡ Some at) × (at + 64 ≤ e)) × Before m e ks
 
-pub before : (m : Memory) (e : ℕ) (ks : List Link) → Before m e ks → (l : Link) → 1 ≤ count l ks → (area : ℕ) → place_of m l ≡ At area → area + 64 ≤ e
+pub before : (m : Memory) (e : ℕ) (ks : List Link) → Before m e ks → (l : Link) → 1 ≤ count l ks → (area : ℕ) → place_of m l ≡ Some area → area + 64 ≤ e
 before m e [] h l c area p = absurd (omega (arith, c))
 before m e (k ∷ ks) h l c area p =
     ⊎_elim
-    (λ s. (let q : place_of m k ≡ At area = subst (λ (j : Link). place_of m j ≡ At area) s p in
+    (λ s. (let q : place_of m k ≡ Some area = subst (λ (j : Link). place_of m j ≡ Some area) s p in
     let t = same_place m k area h.0.0 q h.0.1 in
     omega (arith, h.0.2, t)))
     (λ d. before m e ks h.1 l (omega (arith, c, one_other l k d)) area p)

@@ -1,5 +1,5 @@
 -- What is shown: the start is accepted, the series meets the two conditions, and this is what happens in it.
-use Rattle.std.specs.Prelude.{◌≡◌, List, [], ◌∷◌, ◌++◌}
+use Rattle.std.specs.Prelude.{◌≡◌, List, [], ◌∷◌, ◌++◌, Ok}
 use Rattle.memory.specs.Memory.{Memory}
 use Rattle.memory.specs.Word.{word_at}
 use Rattle.areas.specs.Place.{spot_of}
@@ -12,7 +12,6 @@ use Rattle.events.specs.Traps.{FCD, MPX}
 use Rattle.events.specs.declared.event.Event.TheVariants.{Instruction, Interrupt, Trap}
 use Rattle.events.specs.declared.event.Stop.TheVariants.{NoArea}
 use Rattle.inputs.specs.Checks.{start_verdict}
-use Rattle.inputs.specs.declared.verdict.Verdict.TheVariants.{Accepted}
 use Rattle.inputs.specs.declared.verdict.Refusal.TheVariants.{Table}
 use Rattle.machine.specs.declared.answer.Outcome.{Outcome}
 use Rattle.machine.specs.declared.answer.Outcome.TheVariants.{Made, Stopped, Refused}
@@ -51,7 +50,7 @@ spots m [] = []
 spots m (l ∷ ls) = spot_of m l ∷ spots m ls
 
 pub record Witness : Type 0 where
-  pub accepted : start_verdict start.memory interrupted.bytes (pc start.registers) (fcx start.registers) (pcxi start.registers) ≡ Accepted
+  pub accepted : start_verdict start.memory interrupted.bytes (pc start.registers) (fcx start.registers) (pcxi start.registers) ≡ (Ok tt)
   pub agree : Agree start begun
   -- the free list crosses from the first window to the second and back, the used one from the second to the first
   pub crossing : spots start.memory (listed begun) ≡ First 0 ∷ Second 0 ∷ First 64 ∷ Second 64 ∷ First 128 ∷ []

@@ -1,11 +1,12 @@
 use Rattle.std.proofs.Common.{◌≡◌, ℕ, sym, refl, ◌∙◌, arith}
-use Rattle.image.specs.declared.records.ImageCheck.TheVariants.{Holds, Table, Record}
 use Rattle.inputs_export.proofs.deqbaryn_fetch.Goals as goal
+use Rattle.std.specs.Prelude.{Err, Ok}
+use Rattle.image.specs.declared.table.ImageFault.TheVariants.{Record, Table}
 
-no_table : (p : ℕ) → Holds ≡ Table p → ⊥
+no_table : (p : ℕ) → (Ok tt) ≡ Err (Table p) → ⊥
 no_table p e = let z : ◌≡◌ {A = ℕ} 0 1 = cc in omega arith
 
-no_record : (k : ℕ) → Holds ≡ Record k → ⊥
+no_record : (k : ℕ) → (Ok tt) ≡ Err (Record k) → ⊥
 no_record k e = let z : ◌≡◌ {A = ℕ} 0 1 = cc in omega arith
 
 pub fetched-requires : goal.fetched-requires
@@ -19,9 +20,9 @@ returns-in-Holds c =
 pub returns-in-Table : goal.returns-in-Table
 returns-in-Table c =
     let e = c.check_image.ensures in
-    (rw (← e.0, c.in-Table.is), record { right = λ g. absurd (no_table _ (e.1.only Holds g ∙ c.in-Table.is)); refused = λ d. refl })
+    (rw (← e.0, c.in-Table.is), record { right = λ g. absurd (no_table _ (e.1.only (Ok tt) g ∙ c.in-Table.is)); refused = λ d. refl })
 
 pub returns-in-Record : goal.returns-in-Record
 returns-in-Record c =
     let e = c.check_image.ensures in
-    (rw (← e.0, c.in-Record.is), record { right = λ g. absurd (no_record _ (e.1.only Holds g ∙ c.in-Record.is)); refused = λ d. refl })
+    (rw (← e.0, c.in-Record.is), record { right = λ g. absurd (no_record _ (e.1.only (Ok tt) g ∙ c.in-Record.is)); refused = λ d. refl })

@@ -1,17 +1,16 @@
 use mathlib.Core.Path.{◌≡◌, ap, ◌∙◌}
 use mathlib.Core.Bool.{Bool, false}
 use Prim.Native.Nat.{ℕ}
-use Rattle.std.specs.Prelude.{List}
+use Rattle.std.specs.Prelude.{List, Ok, Result, ⊤}
 use lib.ListN.{length, replicate}
 use Rattle.memory.specs.Memory.{Memory, lent}
 use Rattle.fields.specs.Link.{link_of}
 use Rattle.fields.specs.declared.link.Link.{Link}
-use Rattle.lists.specs.declared.ListEnd.{ListEnd}
-use Rattle.lists.specs.declared.ListEnd.TheVariants.{Whole}
 use Rattle.lists.specs.Walk.{Walked, walked, list_walk, lists_of}
 use Rattle.lists.proofs.Fuel.{walk_length}
 use Rattle.lists.proofs.Lists.{lists_exactly}
 use Rattle.lists.proofs.check.Goals as goal
+use Rattle.lists.specs.declared.ListFault.{ListFault}
 
 pub walk-requires : goal.walk-requires
 walk-requires c =
@@ -21,7 +20,7 @@ walk-requires c =
     (d.requires, ap (λ (w : Walked). length w.met) d.walk-free.ensures ∙ n)
 
 -- where the free list is whole, the used one says what the lists come to
-both_walked : (m : Memory) (fcx pcxi : ℕ) (first second : ListEnd) (met met2 : List Bool) (free used : Link) → free ≡ link_of fcx → walked first met ≡ list_walk 2049 m free (replicate 2048 false) → first ≡ Whole → used ≡ link_of pcxi → walked second met2 ≡ list_walk 2049 m used met → second ≡ lists_of m fcx pcxi
+both_walked : (m : Memory) (fcx pcxi : ℕ) (first second : Result ⊤ ListFault) (met met2 : List Bool) (free used : Link) → free ≡ link_of fcx → walked first met ≡ list_walk 2049 m free (replicate 2048 false) → first ≡ (Ok tt) → used ≡ link_of pcxi → walked second met2 ≡ list_walk 2049 m used met → second ≡ lists_of m fcx pcxi
 unfolding lists_of
 both_walked m fcx pcxi first second met met2 free used f w is u v = rw (← f, ← w, is) (ap (λ (x : Walked). x.end) v ∙ ap (λ (k : Link). (list_walk 2049 m k met).end) u)
 

@@ -9,19 +9,19 @@ use Rattle.areas.specs.Link.{area_address}
 use Rattle.areas.specs.Place.{place_of}
 use Rattle.lists.specs.Walk.{list_walk}
 use Rattle.fields.specs.declared.link.Link.{Link}
-use Rattle.areas.specs.declared.link.Place.TheVariants.{At, Outside}
 use Rattle.areas.proofs.Places.{placed_at_lem}
 use Rattle.areas.proofs.Parts.{first_word_placed}
 use Rattle.lists.proofs.Walks.{walk_whole, walk_outside, walk_again}
 use Rattle.lists.proofs.Fuel.{unmet_set, mark_in, walk_next}
 use Rattle.lists.proofs.walk.Goals as goal
+use Rattle.std.specs.Prelude.{None, Some}
 
 pub returns-in_default : goal.returns-in_default
 returns-in_default c =
     let a = c.args in
     let l = c.loop-l in
     let m = lent a.base a.window.now a.base2 a.window2.now in
-    let p : place_of m l.l ≡ Outside = cc in
+    let p : place_of m l.l ≡ None = cc in
     sym (walk_outside 2048 m l.l l.met c.loop-l-test.true p) ∙ l.invariant.1
 
 pub returns-then-met-k : goal.returns-then-met-k
@@ -29,7 +29,7 @@ returns-then-met-k c =
     let m = lent c.args.base c.args.window.now c.args.base2 c.args.window2.now in
     let l = c.loop-l in
     let p = c.in-At.at in
-    let found : place_of m l.l ≡ At p = cc in
+    let found : place_of m l.l ≡ Some p = cc in
     sym (walk_again 2048 m l.l l.met c.loop-l-test.true p found c.if-met-k.true) ∙ l.invariant.1
 
 pub loop-l-smaller : goal.loop-l-smaller
@@ -37,7 +37,7 @@ loop-l-smaller c =
     let m = lent c.args.base c.args.window.now c.args.base2 c.args.window2.now in
     let l = c.loop-l in
     let p = c.in-At.at in
-    let found : place_of m l.l ≡ At p = cc in
+    let found : place_of m l.l ≡ Some p = cc in
     omega (arith, unmet_set l.met (p / 64) (mark_in m l.l l.met p c.requires.0 l.invariant.0 found) c.if-met-k.false)
 
 pub loop-l-preserved : goal.loop-l-preserved
@@ -45,7 +45,7 @@ loop-l-preserved c =
     let m = lent c.args.base c.args.window.now c.args.base2 c.args.window2.now in
     let l = c.loop-l in
     let p = c.in-At.at in
-    let found : place_of m l.l ≡ At p = cc in
+    let found : place_of m l.l ≡ Some p = cc in
     let on = walk_next m l.l l.met p c.requires.0 l.invariant.0 c.loop-l-test.true found c.if-met-k.false in (
       simp length-set l.invariant.0,
       ap (λ (k : Link). list_walk 2049 m k (set l.met (p / 64) true)) (c.next_link-l.ensures ∙ ap link_of (first_word_placed m l.l p found)) ∙ sym on ∙ l.invariant.1,
@@ -65,7 +65,7 @@ bounds-met-k c =
     let m = lent c.args.base c.args.window.now c.args.base2 c.args.window2.now in
     let l = c.loop-l in
     let p = c.in-At.at in
-    let found : place_of m l.l ≡ At p = cc in
+    let found : place_of m l.l ≡ Some p = cc in
     omega (arith, (placed_at_lem m.windows (length m.bytes) (area_address l.l) p found).inside, c.requires.0)
 
 pub bounds-met-k-in-loop-l : goal.bounds-met-k-in-loop-l
@@ -73,7 +73,7 @@ bounds-met-k-in-loop-l c =
     let m = lent c.args.base c.args.window.now c.args.base2 c.args.window2.now in
     let l = c.loop-l in
     let p = c.in-At.at in
-    let found : place_of m l.l ≡ At p = cc in
+    let found : place_of m l.l ≡ Some p = cc in
     omega (arith, (placed_at_lem m.windows (length m.bytes) (area_address l.l) p found).inside, c.requires.0)
 
 pub next_link-l-requires : goal.next_link-l-requires
@@ -81,5 +81,5 @@ next_link-l-requires c =
     let m = lent c.args.base c.args.window.now c.args.base2 c.args.window2.now in
     let l = c.loop-l in
     let p = c.in-At.at in
-    let found : place_of m l.l ≡ At p = cc in
+    let found : place_of m l.l ≡ Some p = cc in
     (p, found)

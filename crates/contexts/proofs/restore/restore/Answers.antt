@@ -1,15 +1,15 @@
 use mathlib.Core.Path.{sym, ap, ◌∙◌}
-use Rattle.areas.specs.declared.link.Place.TheVariants as place
 use Rattle.areas.proofs.Places.{spot_at_place}
 use Rattle.contexts.specs.Restore.{return_of}
 use Rattle.contexts.proofs.Returns.{return_made}
 use Rattle.contexts.proofs.restore.restore.Goals as goal
+use Rattle.std.specs.Prelude.{Some}
 
 pub load-requires : goal.load-requires
 load-requires c =
     let p = rw c.link_of-link.ensures at (sym c.locate.ensures ∙ c.in-At.is) in
     let r = spot_at_place c.args.window.now c.args.window2.now c.args.base c.args.base2 _ _ (rw c.link_of-link.ensures at c.spot_of-at.ensures) _ p in
-    record { lies = r.0; found = p ∙ ap place.At (sym r.1) }
+    record { lies = r.0; found = p ∙ ap Some (sym r.1) }
 
 pub returns-in-Outside : goal.returns-in-Outside
 unfolding return_of

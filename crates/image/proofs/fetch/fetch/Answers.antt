@@ -1,11 +1,11 @@
 use Rattle.std.proofs.Common.{◌<◌, sym, ap, ◌∙◌, subst, arith}
 use Rattle.image.specs.Rest.{rest_of}
 use Rattle.image.specs.Fetch.{FetchSays}
-use Rattle.image.specs.declared.fetch.Fetched.TheVariants.{Found}
 use Rattle.image.proofs.Images.{image_right}
 use Rattle.image.proofs.Marking.{no_marks}
 use Rattle.image.proofs.Fetches.{rest_bounds, first_fields, fetch_none, fetch_first, fetch_says}
 use Rattle.image.proofs.fetch.fetch.Goals as goal
+use Rattle.std.specs.Prelude.{Some}
 
 pub rest_at-found-requires : goal.rest_at-found-requires
 rest_at-found-requires c = (c.requires, no_marks _ 1)
@@ -40,5 +40,5 @@ returns c =
     let e = c.rest_at-found.ensures.0 in
     let n : 0 < (rest_of img pc).records = rw e at (let l : 0 < c.rest_at-found.result.rest.records = omega (arith, c.if-rest-eq0.false) in l) in
     let f = rw e at (c.read_record.ensures pc c.next_after.ensures) in
-    let is = ap Found f ∙ fetch_first img pc n in
+    let is = ap Some f ∙ fetch_first img pc n in
     (is, rw f (first_fields img (image_right img c.requires) pc n pc), subst (FetchSays img pc) (sym is) (fetch_says img pc))
