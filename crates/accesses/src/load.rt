@@ -16,7 +16,7 @@ use image::fetch::Instruction;
 use memory::address::Address;
 use operations::Load;
 use protection::range::Right;
-use registers::{CORE, PC, PSW, guarded};
+use registers::{PC, PSW, Registers, guarded};
 
 // A byte as a signed word.
 fn signed_byte(b: u32) -> u32
@@ -42,18 +42,16 @@ fn signed_half(h: u32) -> u32
 
 // Writes D[c], with the next PC.
 fn put_data(
-    d: &mut [u32; 16],
-    a: &mut [u32; 16],
-    core: &mut [u32; CORE],
+    registers: &mut Registers,
     c: usize,
     value: u32,
     next: u32,
 ) -> How
     requires { c < 16 }
-    ensures { ended result (registers d.new a.new core.new) ≡ ended_of (Sets (with_pc next (with_d c value (registers d.old a.old core.old)))) (registers d.old a.old core.old) }
+    ensures { ended result registers.new ≡ ended_of (Sets (with_pc next (with_d c value registers.old))) registers.old }
 {
-    d[c] = value;
-    core[PC] = next;
+    registers.d[c] = value;
+    registers.core[PC] = next;
     How::Done
 }
 
@@ -63,19 +61,17 @@ pub fn execute_load(
     window: &[u8],
     base2: Address,
     window2: &[u8],
-    d: &mut [u32; 16],
-    a: &mut [u32; 16],
-    core: &mut [u32; CORE],
+    registers: &mut Registers,
     ranges: &[u32; 96],
     op: Load,
     i: Instruction,
 ) -> How
     requires { FieldsHold i }
-    ensures { ended result (registers d.new a.new core.new) ≡ ended_of (load_of op i (registers d.old a.old core.old) (ranges_in ranges.now) (lent base window.now base2 window2.now)) (registers d.old a.old core.old) }
+    ensures { ended result registers.new ≡ ended_of (load_of op i registers.old (ranges_in ranges.now) (lent base window.now base2 window2.now)) registers.old }
 {
     let c = i.c;
     let x = i.a;
-    let address = data_address(a[x], i.imm);
+    let address = data_address(registers.a[x], i.imm);
     match op {
         Load::LdB => {
             match reach_data(
@@ -83,7 +79,7 @@ pub fn execute_load(
                 window,
                 base2,
                 window2,
-                core,
+                &registers.core,
                 ranges,
                 Right::Read,
                 false,
@@ -95,9 +91,7 @@ pub fn execute_load(
                 Ok(_) => {
                     let at = spot_at(base, window, base2, window2, 1, address);
                     put_data(
-                        d,
-                        a,
-                        core,
+                        registers,
                         c,
                         signed_byte(load_byte(window, window2, at)),
                         i.next,
@@ -111,7 +105,7 @@ pub fn execute_load(
                 window,
                 base2,
                 window2,
-                core,
+                &registers.core,
                 ranges,
                 Right::Read,
                 false,
@@ -122,7 +116,7 @@ pub fn execute_load(
                 Err(t) => How::Trap(t),
                 Ok(_) => {
                     let at = spot_at(base, window, base2, window2, 1, address);
-                    put_data(d, a, core, c, load_byte(window, window2, at), i.next)
+                    put_data(registers, c, load_byte(window, window2, at), i.next)
                 }
             }
         }
@@ -132,7 +126,7 @@ pub fn execute_load(
                 window,
                 base2,
                 window2,
-                core,
+                &registers.core,
                 ranges,
                 Right::Read,
                 false,
@@ -144,9 +138,7 @@ pub fn execute_load(
                 Ok(_) => {
                     let at = spot_at(base, window, base2, window2, 2, address);
                     put_data(
-                        d,
-                        a,
-                        core,
+                        registers,
                         c,
                         signed_half(load_half(window, window2, at)),
                         i.next,
@@ -160,7 +152,7 @@ pub fn execute_load(
                 window,
                 base2,
                 window2,
-                core,
+                &registers.core,
                 ranges,
                 Right::Read,
                 false,
@@ -171,7 +163,7 @@ pub fn execute_load(
                 Err(t) => How::Trap(t),
                 Ok(_) => {
                     let at = spot_at(base, window, base2, window2, 2, address);
-                    put_data(d, a, core, c, load_half(window, window2, at), i.next)
+                    put_data(registers, c, load_half(window, window2, at), i.next)
                 }
             }
         }
@@ -181,7 +173,7 @@ pub fn execute_load(
                 window,
                 base2,
                 window2,
-                core,
+                &registers.core,
                 ranges,
                 Right::Read,
                 false,
@@ -192,18 +184,18 @@ pub fn execute_load(
                 Err(t) => How::Trap(t),
                 Ok(_) => {
                     let at = spot_at(base, window, base2, window2, 4, address);
-                    put_data(d, a, core, c, load_word(window, window2, at), i.next)
+                    put_data(registers, c, load_word(window, window2, at), i.next)
                 }
             }
         }
         Load::LdA => {
-            let guard = guarded(core[PSW], c);
+            let guard = guarded(registers.core[PSW], c);
             match reach_data(
                 base,
                 window,
                 base2,
                 window2,
-                core,
+                &registers.core,
                 ranges,
                 Right::Read,
                 guard,
@@ -214,8 +206,8 @@ pub fn execute_load(
                 Err(t) => How::Trap(t),
                 Ok(_) => {
                     let at = spot_at(base, window, base2, window2, 4, address);
-                    a[c] = load_word(window, window2, at);
-                    core[PC] = i.next;
+                    registers.a[c] = load_word(window, window2, at);
+                    registers.core[PC] = i.next;
                     How::Done
                 }
             }

@@ -16,7 +16,7 @@ use image::fetch::Instruction;
 use memory::address::Address;
 use operations::Store;
 use protection::range::Right;
-use registers::{CORE, PC};
+use registers::{PC, Registers};
 
 // A store. Each operation has an arm of its own, with its size and alignment as constants.
 pub fn execute_store(
@@ -24,19 +24,17 @@ pub fn execute_store(
     window: &mut [u8],
     base2: Address,
     window2: &mut [u8],
-    d: &mut [u32; 16],
-    a: &mut [u32; 16],
-    core: &mut [u32; CORE],
+    registers: &mut Registers,
     ranges: &[u32; 96],
     op: Store,
     i: Instruction,
 ) -> How
     requires { FieldsHold i }
-    ensures { did result (registers d.new a.new core.new) (lent base window.new base2 window2.new) ≡ perform_of (store_of op i (registers d.old a.old core.old) (ranges_in ranges.now) (lent base window.old base2 window2.old)) (registers d.old a.old core.old) (lent base window.old base2 window2.old) }
+    ensures { did result registers.new (lent base window.new base2 window2.new) ≡ perform_of (store_of op i registers.old (ranges_in ranges.now) (lent base window.old base2 window2.old)) registers.old (lent base window.old base2 window2.old) }
 {
     let c = i.c;
     let x = i.a;
-    let address = data_address(a[x], i.imm);
+    let address = data_address(registers.a[x], i.imm);
     match op {
         Store::StB => {
             match reach_data(
@@ -44,7 +42,7 @@ pub fn execute_store(
                 window,
                 base2,
                 window2,
-                core,
+                &registers.core,
                 ranges,
                 Right::Write,
                 false,
@@ -55,8 +53,8 @@ pub fn execute_store(
                 Err(t) => How::Trap(t),
                 Ok(_) => {
                     let at = spot_at(base, window, base2, window2, 1, address);
-                    store_byte(window, window2, at, d[c]);
-                    core[PC] = i.next;
+                    store_byte(window, window2, at, registers.d[c]);
+                    registers.core[PC] = i.next;
                     How::Done
                 }
             }
@@ -67,7 +65,7 @@ pub fn execute_store(
                 window,
                 base2,
                 window2,
-                core,
+                &registers.core,
                 ranges,
                 Right::Write,
                 false,
@@ -78,8 +76,8 @@ pub fn execute_store(
                 Err(t) => How::Trap(t),
                 Ok(_) => {
                     let at = spot_at(base, window, base2, window2, 2, address);
-                    store_half(window, window2, at, d[c]);
-                    core[PC] = i.next;
+                    store_half(window, window2, at, registers.d[c]);
+                    registers.core[PC] = i.next;
                     How::Done
                 }
             }
@@ -90,7 +88,7 @@ pub fn execute_store(
                 window,
                 base2,
                 window2,
-                core,
+                &registers.core,
                 ranges,
                 Right::Write,
                 false,
@@ -101,8 +99,8 @@ pub fn execute_store(
                 Err(t) => How::Trap(t),
                 Ok(_) => {
                     let at = spot_at(base, window, base2, window2, 4, address);
-                    store_word(window, window2, at, d[c]);
-                    core[PC] = i.next;
+                    store_word(window, window2, at, registers.d[c]);
+                    registers.core[PC] = i.next;
                     How::Done
                 }
             }
@@ -113,7 +111,7 @@ pub fn execute_store(
                 window,
                 base2,
                 window2,
-                core,
+                &registers.core,
                 ranges,
                 Right::Write,
                 false,
@@ -124,8 +122,8 @@ pub fn execute_store(
                 Err(t) => How::Trap(t),
                 Ok(_) => {
                     let at = spot_at(base, window, base2, window2, 4, address);
-                    store_word(window, window2, at, a[c]);
-                    core[PC] = i.next;
+                    store_word(window, window2, at, registers.a[c]);
+                    registers.core[PC] = i.next;
                     How::Done
                 }
             }

@@ -15,7 +15,7 @@ use events::trap::system_call;
 use image::fetch::Instruction;
 use memory::address::Address;
 use operations::Context;
-use registers::{CORE, PC, plus};
+use registers::{CORE, PC, Registers, plus};
 
 // Where a call goes: CALLI to A[a] as before the step, CALL to PC plus immediate.
 fn target(a: &[u32; 16], core: &[u32; CORE], op: Context, i: Instruction) -> u32
@@ -44,35 +44,31 @@ pub fn execute_context(
     window: &mut [u8],
     base2: Address,
     window2: &mut [u8],
-    d: &mut [u32; 16],
-    a: &mut [u32; 16],
-    core: &mut [u32; CORE],
+    registers: &mut Registers,
     op: Context,
     i: Instruction,
 ) -> How
     requires { FieldsHold i }
-    ensures { did result (registers d.new a.new core.new) (lent base window.new base2 window2.new) ≡ perform_of (context_op op i (registers d.old a.old core.old)) (registers d.old a.old core.old) (lent base window.old base2 window2.old) }
+    ensures { did result registers.new (lent base window.new base2 window2.new) ≡ perform_of (context_op op i registers.old) registers.old (lent base window.old base2 window2.old) }
 {
     match op {
         Context::Call | Context::Calli => {
-            let to = target(a, core, op, i);
-            passed_on(call(base, window, base2, window2, d, a, core, to, i.next))
+            let to = target(a, &registers.core, op, i);
+            passed_on(call(base, window, base2, window2, registers, to, i.next))
         }
-        Context::Ret => ret(base, window, base2, window2, d, a, core),
-        Context::Rfe => rfe(base, window, base2, window2, d, a, core),
+        Context::Ret => ret(base, window, base2, window2, registers),
+        Context::Rfe => rfe(base, window, base2, window2, registers),
         Context::Svlcx | Context::Bisr => save_lower_half(
             base,
             window,
             base2,
             window2,
-            d,
-            a,
-            core,
+            registers,
             is_bisr(op),
             i.imm,
             i.next,
         ),
-        Context::Rslcx => rslcx(base, window, base2, window2, d, a, core, i.next),
+        Context::Rslcx => rslcx(base, window, base2, window2, registers, i.next),
         Context::Syscall => How::TrapAfter(system_call(i.imm)),
     }
 }

@@ -15,7 +15,7 @@ use fields::depth::{in_call, underflows};
 use fields::link::link_of;
 use fields::pcxi;
 use memory::address::Address;
-use registers::{CORE, ICR, PC, PCXI, PSW, new_pc};
+use registers::{ICR, PC, PCXI, PSW, Registers, new_pc};
 
 // Whether there is a context of that half to return to.
 #[derive(Clone, Copy)]
@@ -52,25 +52,23 @@ pub fn ret(
     window: &mut [u8],
     base2: Address,
     window2: &mut [u8],
-    d: &mut [u32; 16],
-    a: &mut [u32; 16],
-    core: &mut [u32; CORE],
+    registers: &mut Registers,
 ) -> How
-    ensures { did result (registers d.new a.new core.new) (lent base window.new base2 window2.new) ≡ perform_of (ret_of (registers d.old a.old core.old)) (registers d.old a.old core.old) (lent base window.old base2 window2.old) }
+    ensures { did result registers.new (lent base window.new base2 window2.new) ≡ perform_of (ret_of registers.old) registers.old (lent base window.old base2 window2.old) }
 {
-    if underflows(core[PSW]) {
+    if underflows(registers.core[PSW]) {
         return How::Trap(CDU);
     }
-    match previous_context(core[PCXI], Half::Upper) {
+    match previous_context(registers.core[PCXI], Half::Upper) {
         Err(t) => How::Trap(t),
         Ok(()) => {
-            let to = new_pc(a[11]);
-            let before = control_of(core);
-            match restore(base, window, base2, window2, d, a, core, Half::Upper) {
+            let to = new_pc(registers.a[11]);
+            let before = control_of(&registers.core);
+            match restore(base, window, base2, window2, registers, Half::Upper) {
                 Err(Stop::Outside) => How::Stopped(Stop::Outside),
                 Ok(()) => {
-                    core[PC] = to;
-                    settled(before, core)
+                    registers.core[PC] = to;
+                    settled(before, &registers.core)
                 }
             }
         }
@@ -82,31 +80,29 @@ pub fn rfe(
     window: &mut [u8],
     base2: Address,
     window2: &mut [u8],
-    d: &mut [u32; 16],
-    a: &mut [u32; 16],
-    core: &mut [u32; CORE],
+    registers: &mut Registers,
 ) -> How
-    ensures { did result (registers d.new a.new core.new) (lent base window.new base2 window2.new) ≡ perform_of (rfe_of (registers d.old a.old core.old)) (registers d.old a.old core.old) (lent base window.old base2 window2.old) }
+    ensures { did result registers.new (lent base window.new base2 window2.new) ≡ perform_of (rfe_of registers.old) registers.old (lent base window.old base2 window2.old) }
 {
-    match previous_context(core[PCXI], Half::Upper) {
+    match previous_context(registers.core[PCXI], Half::Upper) {
         Err(t) => How::Trap(t),
         Ok(()) => {
-            if in_call(core[PSW]) {
+            if in_call(registers.core[PSW]) {
                 return How::Trap(NEST);
             }
-            let to = new_pc(a[11]);
+            let to = new_pc(registers.a[11]);
             let icr = fields::icr::written(
-                core[ICR],
-                pcxi::interrupts(core[PCXI]),
-                pcxi::priority(core[PCXI]),
+                registers.core[ICR],
+                pcxi::interrupts(registers.core[PCXI]),
+                pcxi::priority(registers.core[PCXI]),
             );
-            let before = control_of(core);
-            match restore(base, window, base2, window2, d, a, core, Half::Upper) {
+            let before = control_of(&registers.core);
+            match restore(base, window, base2, window2, registers, Half::Upper) {
                 Err(Stop::Outside) => How::Stopped(Stop::Outside),
                 Ok(()) => {
-                    core[ICR] = icr;
-                    core[PC] = to;
-                    settled(before, core)
+                    registers.core[ICR] = icr;
+                    registers.core[PC] = to;
+                    settled(before, &registers.core)
                 }
             }
         }
@@ -118,19 +114,17 @@ pub fn rslcx(
     window: &mut [u8],
     base2: Address,
     window2: &mut [u8],
-    d: &mut [u32; 16],
-    a: &mut [u32; 16],
-    core: &mut [u32; CORE],
+    registers: &mut Registers,
     next: u32,
 ) -> How
-    ensures { did result (registers d.new a.new core.new) (lent base window.new base2 window2.new) ≡ perform_of (rslcx_of next (registers d.old a.old core.old)) (registers d.old a.old core.old) (lent base window.old base2 window2.old) }
+    ensures { did result registers.new (lent base window.new base2 window2.new) ≡ perform_of (rslcx_of next registers.old) registers.old (lent base window.old base2 window2.old) }
 {
-    match previous_context(core[PCXI], Half::Lower) {
+    match previous_context(registers.core[PCXI], Half::Lower) {
         Err(t) => How::Trap(t),
-        Ok(()) => match restore(base, window, base2, window2, d, a, core, Half::Lower) {
+        Ok(()) => match restore(base, window, base2, window2, registers, Half::Lower) {
             Err(Stop::Outside) => How::Stopped(Stop::Outside),
             Ok(()) => {
-                core[PC] = next;
+                registers.core[PC] = next;
                 How::Done
             }
         },

@@ -11,15 +11,15 @@ use contexts::save::{Saved, save_lower, save_upper};
 use events::trap::{CDO, PRIV};
 use fields::depth::{called, overflows};
 use memory::address::Address;
-use registers::{CORE, ICR, PC, PSW, new_pc};
+use registers::{ICR, PC, PSW, Registers, new_pc};
 
 // What a call sets after its save.
-fn set_called(d: &mut [u32; 16], a: &mut [u32; 16], core: &mut [u32; CORE], to: u32, next: u32)
-    ensures { registers d.new a.new core.new ≡ called_then to next (registers d.old a.old core.old) }
+fn set_called(registers: &mut Registers, to: u32, next: u32)
+    ensures { registers.new ≡ called_then to next registers.old }
 {
-    a[11] = next;
-    core[PSW] = called(core[PSW]);
-    core[PC] = new_pc(to);
+    registers.a[11] = next;
+    registers.core[PSW] = called(registers.core[PSW]);
+    registers.core[PC] = new_pc(to);
 }
 
 // CALL and CALLI, to an address.
@@ -28,25 +28,23 @@ pub fn call(
     window: &mut [u8],
     base2: Address,
     window2: &mut [u8],
-    d: &mut [u32; 16],
-    a: &mut [u32; 16],
-    core: &mut [u32; CORE],
+    registers: &mut Registers,
     to: u32,
     next: u32,
 ) -> How
-    ensures { did result (registers d.new a.new core.new) (lent base window.new base2 window2.new) ≡ perform_of (call_of to next (registers d.old a.old core.old)) (registers d.old a.old core.old) (lent base window.old base2 window2.old) }
+    ensures { did result registers.new (lent base window.new base2 window2.new) ≡ perform_of (call_of to next registers.old) registers.old (lent base window.old base2 window2.old) }
 {
-    if overflows(core[PSW]) {
+    if overflows(registers.core[PSW]) {
         return How::Trap(CDO);
     }
-    match save_upper(base, window, base2, window2, d, a, core) {
+    match save_upper(base, window, base2, window2, registers) {
         Err(s) => How::Stopped(s),
         Ok(Saved::Done) => {
-            set_called(d, a, core, to, next);
+            set_called(registers, to, next);
             How::Done
         }
         Ok(Saved::Depleted) => {
-            set_called(d, a, core, to, next);
+            set_called(registers, to, next);
             How::Depleted
         }
     }
@@ -67,20 +65,18 @@ fn is_forbidden(bisr: bool, psw: u32) -> bool
 
 // What SVLCX or BISR sets after its save.
 fn set_after(
-    d: &mut [u32; 16],
-    a: &mut [u32; 16],
-    core: &mut [u32; CORE],
+    registers: &mut Registers,
     bisr: bool,
     imm: u32,
     next: u32,
 )
-    ensures { registers d.new a.new core.new ≡ lower_then bisr imm next (registers d.old a.old core.old) }
+    ensures { registers.new ≡ lower_then bisr imm next registers.old }
 {
     if bisr {
-        core[ICR] = fields::icr::written(core[ICR], true, imm);
-        core[PC] = next;
+        registers.core[ICR] = fields::icr::written(registers.core[ICR], true, imm);
+        registers.core[PC] = next;
     } else {
-        core[PC] = next;
+        registers.core[PC] = next;
     }
 }
 
@@ -90,28 +86,26 @@ pub fn save_lower_half(
     window: &mut [u8],
     base2: Address,
     window2: &mut [u8],
-    d: &mut [u32; 16],
-    a: &mut [u32; 16],
-    core: &mut [u32; CORE],
+    registers: &mut Registers,
     bisr: bool,
     imm: u32,
     next: u32,
 ) -> How
-    ensures { did result (registers d.new a.new core.new) (lent base window.new base2 window2.new) ≡ perform_of (lower_save_of bisr imm next (registers d.old a.old core.old)) (registers d.old a.old core.old) (lent base window.old base2 window2.old) }
+    ensures { did result registers.new (lent base window.new base2 window2.new) ≡ perform_of (lower_save_of bisr imm next registers.old) registers.old (lent base window.old base2 window2.old) }
 {
-    if is_forbidden(bisr, core[PSW]) {
+    if is_forbidden(bisr, registers.core[PSW]) {
         return How::Trap(PRIV);
     }
-    let before = control_of(core);
-    match save_lower(base, window, base2, window2, d, a, core, next) {
+    let before = control_of(&registers.core);
+    match save_lower(base, window, base2, window2, registers, next) {
         Err(s) => How::Stopped(s),
         Ok(Saved::Done) => {
-            set_after(d, a, core, bisr, imm, next);
-            settled(before, core)
+            set_after(registers, bisr, imm, next);
+            settled(before, &registers.core)
         }
         Ok(Saved::Depleted) => {
             // an FCD entry finds IE and CCPN as they are set here
-            set_after(d, a, core, bisr, imm, next);
+            set_after(registers, bisr, imm, next);
             How::Depleted
         }
     }

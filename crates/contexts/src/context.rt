@@ -5,7 +5,7 @@ ghost use Rattle.contexts.specs.Context.{ul_of};
 ghost use Rattle.registers.specs.Registers.{registers};
 ghost use Rattle.contexts.specs.Context.{upper_of, lower_of};
 
-use registers::{CORE, PCXI, PSW};
+use registers::{PCXI, PSW, Registers};
 
 #[derive(Clone, Copy)]
 pub enum Half {
@@ -24,21 +24,21 @@ pub fn ul(half: Half) -> bool
 }
 
 // The upper context: PCXI, PSW, A10 to A15, D8 to D15.
-pub fn upper(d: &[u32; 16], a: &[u32; 16], core: &[u32; CORE]) -> [u32; 16]
-    ensures { result ≡ upper_of (registers d.now a.now core.now) }
+pub fn upper(registers: &Registers) -> [u32; 16]
+    ensures { result ≡ upper_of registers.now }
 {
     [
-        core[PCXI], core[PSW], a[10], a[11], a[12], a[13], a[14], a[15], d[8], d[9], d[10], d[11],
-        d[12], d[13], d[14], d[15],
+        registers.core[PCXI], registers.core[PSW], registers.a[10], registers.a[11], registers.a[12], registers.a[13], registers.a[14], registers.a[15], registers.d[8], registers.d[9], registers.d[10], registers.d[11],
+        registers.d[12], registers.d[13], registers.d[14], registers.d[15],
     ]
 }
 
 // The lower context: PCXI, the saved PC, A2 to A7, D0 to D7.
-pub fn lower(d: &[u32; 16], a: &[u32; 16], core: &[u32; CORE], pc: u32) -> [u32; 16]
-    ensures { result ≡ lower_of pc (registers d.now a.now core.now) }
+pub fn lower(registers: &Registers, pc: u32) -> [u32; 16]
+    ensures { result ≡ lower_of pc registers.now }
 {
     [
-        core[PCXI], pc, a[2], a[3], a[4], a[5], a[6], a[7], d[0], d[1], d[2], d[3], d[4], d[5],
-        d[6], d[7],
+        registers.core[PCXI], pc, registers.a[2], registers.a[3], registers.a[4], registers.a[5], registers.a[6], registers.a[7], registers.d[0], registers.d[1], registers.d[2], registers.d[3], registers.d[4], registers.d[5],
+        registers.d[6], registers.d[7],
     ]
 }

@@ -14,7 +14,7 @@ use areas::link::{Place, Spot, locate, spot_of};
 use fields::link::link_of;
 use memory::address::Address;
 use memory::{read_words, word_at};
-use registers::{CORE, FCX, PCXI, PSW};
+use registers::{FCX, PCXI, PSW, Registers};
 
 #[derive(Clone, Copy)]
 pub enum Returned {
@@ -29,25 +29,23 @@ fn load_upper(
     window: &mut [u8],
     base2: Address,
     window2: &mut [u8],
-    d: &mut [u32; 16],
-    a: &mut [u32; 16],
-    core: &mut [u32; CORE],
+    registers: &mut Registers,
     at: Spot,
 )
     requires lies { LiesIn (length window.old) (length window2.old) 64 at }
-    requires found { place_of (lent base window.old base2 window2.old) (link_of (get_or core.old PCXI 0)) ≡ Some (offset (length window.old) at) }
-    ensures loaded { loaded (registers d.new a.new core.new) (window.new ++ window2.new) ≡ loaded_of Half.Upper (offset (length window.old) at) (registers d.old a.old core.old) (window.old ++ window2.old) }
+    requires found { place_of (lent base window.old base2 window2.old) (link_of (get_or registers.old.core PCXI 0)) ≡ Some (offset (length window.old) at) }
+    ensures loaded { loaded registers.new (window.new ++ window2.new) ≡ loaded_of Half.Upper (offset (length window.old) at) registers.old (window.old ++ window2.old) }
     ensures length_kept { length window.new ≡ length window.old }
 {
-    let l = link_of(core[PCXI]);
+    let l = link_of(registers.core[PCXI]);
     let bytes = area(base, window, base2, window2, l);
     // A10 to A15, D8 to D15
     read_words(bytes, 8, a, 10, 6);
     read_words(bytes, 32, d, 8, 8);
-    let free = core[FCX];
-    core[PSW] = word_at(bytes, 4);
-    core[PCXI] = word_at(bytes, 0);
-    core[FCX] = l.0;
+    let free = registers.core[FCX];
+    registers.core[PSW] = word_at(bytes, 4);
+    registers.core[PCXI] = word_at(bytes, 0);
+    registers.core[FCX] = l.0;
     write_link(window, window2, at, free);
 }
 
@@ -57,24 +55,22 @@ fn load_lower(
     window: &mut [u8],
     base2: Address,
     window2: &mut [u8],
-    d: &mut [u32; 16],
-    a: &mut [u32; 16],
-    core: &mut [u32; CORE],
+    registers: &mut Registers,
     at: Spot,
 )
     requires lies { LiesIn (length window.old) (length window2.old) 64 at }
-    requires found { place_of (lent base window.old base2 window2.old) (link_of (get_or core.old PCXI 0)) ≡ Some (offset (length window.old) at) }
-    ensures loaded { loaded (registers d.new a.new core.new) (window.new ++ window2.new) ≡ loaded_of Half.Lower (offset (length window.old) at) (registers d.old a.old core.old) (window.old ++ window2.old) }
+    requires found { place_of (lent base window.old base2 window2.old) (link_of (get_or registers.old.core PCXI 0)) ≡ Some (offset (length window.old) at) }
+    ensures loaded { loaded registers.new (window.new ++ window2.new) ≡ loaded_of Half.Lower (offset (length window.old) at) registers.old (window.old ++ window2.old) }
     ensures length_kept { length window.new ≡ length window.old }
 {
-    let l = link_of(core[PCXI]);
+    let l = link_of(registers.core[PCXI]);
     let bytes = area(base, window, base2, window2, l);
     // A2 to A7, D0 to D7
     read_words(bytes, 8, a, 2, 6);
     read_words(bytes, 32, d, 0, 8);
-    let free = core[FCX];
-    core[PCXI] = word_at(bytes, 0);
-    core[FCX] = l.0;
+    let free = registers.core[FCX];
+    registers.core[PCXI] = word_at(bytes, 0);
+    registers.core[FCX] = l.0;
     write_link(window, window2, at, free);
 }
 
@@ -83,20 +79,18 @@ fn load(
     window: &mut [u8],
     base2: Address,
     window2: &mut [u8],
-    d: &mut [u32; 16],
-    a: &mut [u32; 16],
-    core: &mut [u32; CORE],
+    registers: &mut Registers,
     at: Spot,
     half: Half,
 )
     requires lies { LiesIn (length window.old) (length window2.old) 64 at }
-    requires found { place_of (lent base window.old base2 window2.old) (link_of (get_or core.old PCXI 0)) ≡ Some (offset (length window.old) at) }
-    ensures loaded { loaded (registers d.new a.new core.new) (window.new ++ window2.new) ≡ loaded_of half (offset (length window.old) at) (registers d.old a.old core.old) (window.old ++ window2.old) }
+    requires found { place_of (lent base window.old base2 window2.old) (link_of (get_or registers.old.core PCXI 0)) ≡ Some (offset (length window.old) at) }
+    ensures loaded { loaded registers.new (window.new ++ window2.new) ≡ loaded_of half (offset (length window.old) at) registers.old (window.old ++ window2.old) }
     ensures length_kept { length window.new ≡ length window.old }
 {
     match half {
-        Half::Upper => load_upper(base, window, base2, window2, d, a, core, at),
-        Half::Lower => load_lower(base, window, base2, window2, d, a, core, at),
+        Half::Upper => load_upper(base, window, base2, window2, registers, at),
+        Half::Lower => load_lower(base, window, base2, window2, registers, at),
     }
 }
 
@@ -106,19 +100,17 @@ pub fn restore(
     window: &mut [u8],
     base2: Address,
     window2: &mut [u8],
-    d: &mut [u32; 16],
-    a: &mut [u32; 16],
-    core: &mut [u32; CORE],
+    registers: &mut Registers,
     half: Half,
 ) -> Result<(), Stop>
-    ensures { returning result (registers d.new a.new core.new) (lent base window.new base2 window2.new) ≡ return_of half (registers d.old a.old core.old) (lent base window.old base2 window2.old) }
+    ensures { returning result registers.new (lent base window.new base2 window2.new) ≡ return_of half registers.old (lent base window.old base2 window2.old) }
 {
-    let link = link_of(core[PCXI]);
+    let link = link_of(registers.core[PCXI]);
     match locate(base, window, base2, window2, link) {
         None => Err(Stop::Outside),
         Some(_) => {
             let at = spot_of(base, window, base2, window2, link);
-            load(base, window, base2, window2, d, a, core, at, half);
+            load(base, window, base2, window2, registers, at, half);
             Ok(())
         }
     }

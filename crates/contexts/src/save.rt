@@ -14,7 +14,7 @@ use areas::link::{Place, Spot, locate, spot_of};
 use events::event::Stop;
 use fields::link::{Link, link_of};
 use memory::address::Address;
-use registers::{CORE, FCX, ICR, LCX, PCXI};
+use registers::{CORE, FCX, ICR, LCX, PCXI, Registers};
 
 // The area for a save, or why there is none.
 #[derive(Clone, Copy)]
@@ -101,24 +101,22 @@ pub fn save_upper(
     window: &mut [u8],
     base2: Address,
     window2: &mut [u8],
-    d: &[u32; 16],
-    a: &[u32; 16],
-    core: &mut [u32; CORE],
+    registers: &mut Registers,
 ) -> Result<Saved, Stop>
-    ensures { saving result core.new (lent base window.new base2 window2.new) ≡ save_of Half.Upper (upper_of (registers d.now a.now core.old)) core.old (lent base window.old base2 window2.old) }
+    ensures { saving result registers.new.core (lent base window.new base2 window2.new) ≡ save_of Half.Upper (upper_of registers.old) registers.old.core (lent base window.old base2 window2.old) }
 {
-    let l = link_of(core[FCX]);
+    let l = link_of(registers.core[FCX]);
     match find(base, window, base2, window2, l) {
         Err(s) => Err(s),
         Ok(_) => {
             let at = spot_of(base, window, base2, window2, l);
             let next = next_link(base, window, base2, window2, l);
-            let saved = foresee(base, window, base2, window2, core, next);
+            let saved = foresee(base, window, base2, window2, &registers.core, next);
             if stops(saved) {
                 return saved;
             }
-            let words = upper(d, a, core);
-            take(window, window2, core, at, Half::Upper, words, next);
+            let words = upper(registers);
+            take(window, window2, &mut registers.core, at, Half::Upper, words, next);
             saved
         }
     }
@@ -130,25 +128,23 @@ pub fn save_lower(
     window: &mut [u8],
     base2: Address,
     window2: &mut [u8],
-    d: &[u32; 16],
-    a: &[u32; 16],
-    core: &mut [u32; CORE],
+    registers: &mut Registers,
     pc: u32,
 ) -> Result<Saved, Stop>
-    ensures { saving result core.new (lent base window.new base2 window2.new) ≡ save_of Half.Lower (lower_of pc (registers d.now a.now core.old)) core.old (lent base window.old base2 window2.old) }
+    ensures { saving result registers.new.core (lent base window.new base2 window2.new) ≡ save_of Half.Lower (lower_of pc registers.old) registers.old.core (lent base window.old base2 window2.old) }
 {
-    let l = link_of(core[FCX]);
+    let l = link_of(registers.core[FCX]);
     match find(base, window, base2, window2, l) {
         Err(s) => Err(s),
         Ok(_) => {
             let at = spot_of(base, window, base2, window2, l);
             let next = next_link(base, window, base2, window2, l);
-            let saved = foresee(base, window, base2, window2, core, next);
+            let saved = foresee(base, window, base2, window2, &registers.core, next);
             if stops(saved) {
                 return saved;
             }
-            let words = lower(d, a, core, pc);
-            take(window, window2, core, at, Half::Lower, words, next);
+            let words = lower(registers, pc);
+            take(window, window2, &mut registers.core, at, Half::Lower, words, next);
             saved
         }
     }

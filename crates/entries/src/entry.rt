@@ -14,7 +14,7 @@ use events::event::{Ending, Event};
 use events::trap::{FCD, Trap};
 use fields::link::link_of;
 use memory::address::Address;
-use registers::{CORE, FCX, PC};
+use registers::{FCX, PC, Registers};
 
 // The FCD entry after a step's save: it works on the state that the step had reached.
 pub fn enter_fcd(
@@ -22,22 +22,20 @@ pub fn enter_fcd(
     window: &mut [u8],
     base2: Address,
     window2: &mut [u8],
-    d: &mut [u32; 16],
-    a: &mut [u32; 16],
-    core: &mut [u32; CORE],
+    registers: &mut Registers,
 ) -> Result<Event, Stop>
-    ensures { made result (registers d.new a.new core.new) (lent base window.new base2 window2.new) ≡ fcd_of (registers d.old a.old core.old) (lent base window.old base2 window2.old) }
+    ensures { made result registers.new (lent base window.new base2 window2.new) ≡ fcd_of registers.old (lent base window.old base2 window2.old) }
 {
-    let l = link_of(core[FCX]);
+    let l = link_of(registers.core[FCX]);
     match find(base, window, base2, window2, l) {
         Err(s) => Err(s),
         Ok(_) => {
             let at = spot_of(base, window, base2, window2, l);
             let next = next_link(base, window, base2, window2, l);
-            let words = upper(d, a, core);
-            take(window, window2, core, at, Half::Upper, words, next);
-            let pc = core[PC];
-            enter_trap(d, a, core, FCD, pc);
+            let words = upper(registers);
+            take(window, window2, &mut registers.core, at, Half::Upper, words, next);
+            let pc = registers.core[PC];
+            enter_trap(registers, FCD, pc);
             Ok(Event::Trap(FCD))
         }
     }
@@ -61,12 +59,12 @@ fn event_of(cause: Cause) -> Event
     }
 }
 
-fn set_entry(d: &mut [u32; 16], a: &mut [u32; 16], core: &mut [u32; CORE], cause: Cause)
-    ensures { registers d.new a.new core.new ≡ cause_entry cause (registers d.old a.old core.old) }
+fn set_entry(registers: &mut Registers, cause: Cause)
+    ensures { registers.new ≡ cause_entry cause registers.old }
 {
     match cause {
-        Cause::Trap(t, back) => enter_trap(d, a, core, t, back),
-        Cause::Interrupt(_, level) => enter_interrupt(d, a, core, level),
+        Cause::Trap(t, back) => enter_trap(registers, t, back),
+        Cause::Interrupt(_, level) => enter_interrupt(registers, level),
     }
 }
 
@@ -76,22 +74,20 @@ fn enter(
     window: &mut [u8],
     base2: Address,
     window2: &mut [u8],
-    d: &mut [u32; 16],
-    a: &mut [u32; 16],
-    core: &mut [u32; CORE],
+    registers: &mut Registers,
     cause: Cause,
 ) -> Result<Event, Stop>
-    ensures { made result (registers d.new a.new core.new) (lent base window.new base2 window2.new) ≡ enter_of cause (registers d.old a.old core.old) (lent base window.old base2 window2.old) }
+    ensures { made result registers.new (lent base window.new base2 window2.new) ≡ enter_of cause registers.old (lent base window.old base2 window2.old) }
 {
-    match save_upper(base, window, base2, window2, d, a, core) {
+    match save_upper(base, window, base2, window2, registers) {
         Err(s) => Err(s),
         Ok(Saved::Done) => {
-            set_entry(d, a, core, cause);
+            set_entry(registers, cause);
             Ok(event_of(cause))
         }
         Ok(Saved::Depleted) => {
-            set_entry(d, a, core, cause);
-            enter_fcd(base, window, base2, window2, d, a, core)
+            set_entry(registers, cause);
+            enter_fcd(base, window, base2, window2, registers)
         }
     }
 }
@@ -102,22 +98,18 @@ pub fn trap(
     window: &mut [u8],
     base2: Address,
     window2: &mut [u8],
-    d: &mut [u32; 16],
-    a: &mut [u32; 16],
-    core: &mut [u32; CORE],
+    registers: &mut Registers,
     t: Trap,
     back: u32,
 ) -> Result<Event, Stop>
-    ensures { made result (registers d.new a.new core.new) (lent base window.new base2 window2.new) ≡ enter_of (Cause.Trap t back) (registers d.old a.old core.old) (lent base window.old base2 window2.old) }
+    ensures { made result registers.new (lent base window.new base2 window2.new) ≡ enter_of (Cause.Trap t back) registers.old (lent base window.old base2 window2.old) }
 {
     enter(
         base,
         window,
         base2,
         window2,
-        d,
-        a,
-        core,
+        registers,
         Cause::Trap(t, back),
     )
 }
@@ -128,22 +120,18 @@ pub fn interrupt(
     window: &mut [u8],
     base2: Address,
     window2: &mut [u8],
-    d: &mut [u32; 16],
-    a: &mut [u32; 16],
-    core: &mut [u32; CORE],
+    registers: &mut Registers,
     source: u8,
     level: u8,
 ) -> Result<Event, Stop>
-    ensures { made result (registers d.new a.new core.new) (lent base window.new base2 window2.new) ≡ enter_of (Cause.Interrupt source level) (registers d.old a.old core.old) (lent base window.old base2 window2.old) }
+    ensures { made result registers.new (lent base window.new base2 window2.new) ≡ enter_of (Cause.Interrupt source level) registers.old (lent base window.old base2 window2.old) }
 {
     enter(
         base,
         window,
         base2,
         window2,
-        d,
-        a,
-        core,
+        registers,
         Cause::Interrupt(source, level),
     )
 }

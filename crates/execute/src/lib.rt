@@ -23,7 +23,7 @@ use jumps::execute_jump;
 use memory::address::Address;
 use moves::{execute_integer, execute_move};
 use operations::Operation;
-use registers::{CORE, PC};
+use registers::{PC, Registers};
 use system::instructions::execute_system;
 
 // An instruction that is done and leaves ICR, SYSCON and PSW.PRS as they are, or the ending of any other.
@@ -58,33 +58,31 @@ fn perform(
     window: &mut [u8],
     base2: Address,
     window2: &mut [u8],
-    d: &mut [u32; 16],
-    a: &mut [u32; 16],
-    core: &mut [u32; CORE],
+    registers: &mut Registers,
     ranges: &[u32; 96],
     i: Instruction,
 ) -> How
     requires { FieldsHold i }
-    ensures { did result (registers d.new a.new core.new) (lent base window.new base2 window2.new) ≡ perform_of (act_of i (registers d.old a.old core.old) (ranges_in ranges.now) (lent base window.old base2 window2.old)) (registers d.old a.old core.old) (lent base window.old base2 window2.old) }
+    ensures { did result registers.new (lent base window.new base2 window2.new) ≡ perform_of (act_of i registers.old (ranges_in ranges.now) (lent base window.old base2 window2.old)) registers.old (lent base window.old base2 window2.old) }
 {
     let op = i.op;
     match op {
         Operation::Nop => {
-            core[PC] = i.next;
+            registers.core[PC] = i.next;
             How::Done
         }
         Operation::Integer(x) => {
-            execute_integer(d, a, core, x, i);
+            execute_integer(registers, x, i);
             How::Done
         }
-        Operation::Move(x) => execute_move(d, a, core, x, i),
-        Operation::Load(x) => execute_load(base, window, base2, window2, d, a, core, ranges, x, i),
+        Operation::Move(x) => execute_move(registers, x, i),
+        Operation::Load(x) => execute_load(base, window, base2, window2, registers, ranges, x, i),
         Operation::Store(x) => execute_store(
-            base, window, base2, window2, d, a, core, ranges, x, i,
+            base, window, base2, window2, registers, ranges, x, i,
         ),
-        Operation::Jump(x) => execute_jump(d, a, core, x, i),
-        Operation::Context(x) => execute_context(base, window, base2, window2, d, a, core, x, i),
-        Operation::System(x) => execute_system(d, a, core, x, i),
+        Operation::Jump(x) => execute_jump(registers, x, i),
+        Operation::Context(x) => execute_context(base, window, base2, window2, registers, x, i),
+        Operation::System(x) => execute_system(registers, x, i),
     }
 }
 
@@ -94,23 +92,21 @@ fn finish(
     window: &mut [u8],
     base2: Address,
     window2: &mut [u8],
-    d: &mut [u32; 16],
-    a: &mut [u32; 16],
-    core: &mut [u32; CORE],
+    registers: &mut Registers,
     how: How,
     next: u32,
 ) -> Result<Event, Stop>
-    ensures { made result (registers d.new a.new core.new) (lent base window.new base2 window2.new) ≡ finish_of next how (registers d.old a.old core.old) (lent base window.old base2 window2.old) }
+    ensures { made result registers.new (lent base window.new base2 window2.new) ≡ finish_of next how registers.old (lent base window.old base2 window2.old) }
 {
     match how {
         How::Done => Ok(Event::Instruction),
         How::Switched => Ok(Event::Instruction),
-        How::Depleted => passed_on(enter_fcd(base, window, base2, window2, d, a, core)),
+        How::Depleted => passed_on(enter_fcd(base, window, base2, window2, registers)),
         How::Trap(t) => {
-            let pc = core[PC];
-            passed_on(trap(base, window, base2, window2, d, a, core, t, pc))
+            let pc = registers.core[PC];
+            passed_on(trap(base, window, base2, window2, registers, t, pc))
         }
-        How::TrapAfter(t) => passed_on(trap(base, window, base2, window2, d, a, core, t, next)),
+        How::TrapAfter(t) => passed_on(trap(base, window, base2, window2, registers, t, next)),
         How::Stopped(s) => Err(s),
     }
 }
@@ -121,19 +117,17 @@ pub fn execute_instruction(
     window: &mut [u8],
     base2: Address,
     window2: &mut [u8],
-    d: &mut [u32; 16],
-    a: &mut [u32; 16],
-    core: &mut [u32; CORE],
+    registers: &mut Registers,
     ranges: &[u32; 96],
     i: Instruction,
 ) -> Executed
     requires { FieldsHold i }
-    ensures performed { made (ending_of result) (registers d.new a.new core.new) (lent base window.new base2 window2.new) ≡ execute_of i (registers d.old a.old core.old) (ranges_in ranges.now) (lent base window.old base2 window2.old) }
-    ensures steady { is_steady result ≡ stays_steady (ending_of result) (registers d.old a.old core.old) (registers d.new a.new core.new) }
+    ensures performed { made (ending_of result) registers.new (lent base window.new base2 window2.new) ≡ execute_of i registers.old (ranges_in ranges.now) (lent base window.old base2 window2.old) }
+    ensures steady { is_steady result ≡ stays_steady (ending_of result) registers.old registers.new }
 {
-    let how = perform(base, window, base2, window2, d, a, core, ranges, i);
+    let how = perform(base, window, base2, window2, registers, ranges, i);
     let How::Done = how else {
-        return Executed::Ended(finish(base, window, base2, window2, d, a, core, how, i.next));
+        return Executed::Ended(finish(base, window, base2, window2, registers, how, i.next));
     };
     Executed::Steady
 }

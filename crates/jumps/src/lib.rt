@@ -14,7 +14,7 @@ use compare::tests::{equal, less, less_u};
 use events::trap::GRWP;
 use image::fetch::Instruction;
 use operations::Jump;
-use registers::{CORE, PC, PSW, guarded, minus, new_pc, plus};
+use registers::{PC, PSW, Registers, guarded, minus, new_pc, plus};
 
 // The jump to PC plus the immediate.
 fn destination(pc: u32, imm: u32) -> u32
@@ -52,68 +52,64 @@ fn condition(op: Jump, x: u32, y: u32) -> bool
 }
 
 fn compare_and_jump(
-    d: &mut [u32; 16],
-    a: &mut [u32; 16],
-    core: &mut [u32; CORE],
+    registers: &mut Registers,
     op: Jump,
     i: Instruction,
 ) -> How
     requires { (i.a < 16) × (i.b < 16) }
-    ensures { ended result (registers d.new a.new core.new) ≡ ended_of (compare_of op i (registers d.old a.old core.old)) (registers d.old a.old core.old) }
+    ensures { ended result registers.new ≡ ended_of (compare_of op i registers.old) registers.old }
 {
     let x = i.a;
     let y = i.b;
-    let taken = condition(op, d[x], d[y]);
-    core[PC] = branch(taken, core[PC], i.imm, i.next);
+    let taken = condition(op, registers.d[x], registers.d[y]);
+    registers.core[PC] = branch(taken, registers.core[PC], i.imm, i.next);
     How::Done
 }
 
-fn execute_loop(d: &mut [u32; 16], a: &mut [u32; 16], core: &mut [u32; CORE], i: Instruction) -> How
+fn execute_loop(registers: &mut Registers, i: Instruction) -> How
     requires { FieldsHold i }
-    ensures { ended result (registers d.new a.new core.new) ≡ ended_of (loop_of i (registers d.old a.old core.old)) (registers d.old a.old core.old) }
+    ensures { ended result registers.new ≡ ended_of (loop_of i registers.old) registers.old }
 {
     let x = i.a;
-    if guarded(core[PSW], x) {
+    if guarded(registers.core[PSW], x) {
         return How::Trap(GRWP);
     }
-    let count = a[x];
-    a[x] = minus(count, 1);
-    core[PC] = branch(!equal(count, 0), core[PC], i.imm, i.next);
+    let count = registers.a[x];
+    registers.a[x] = minus(count, 1);
+    registers.core[PC] = branch(!equal(count, 0), registers.core[PC], i.imm, i.next);
     How::Done
 }
 
 // J to LOOP. A jump that compares has no immediate for an operand: rule 3 refuses b = 16.
 pub fn execute_jump(
-    d: &mut [u32; 16],
-    a: &mut [u32; 16],
-    core: &mut [u32; CORE],
+    registers: &mut Registers,
     op: Jump,
     i: Instruction,
 ) -> How
     requires { FieldsHold i × (jump_compares op ≡ true → i.b < 16) }
-    ensures { ended result (registers d.new a.new core.new) ≡ ended_of (jump_of op i (registers d.old a.old core.old)) (registers d.old a.old core.old) }
+    ensures { ended result registers.new ≡ ended_of (jump_of op i registers.old) registers.old }
 {
     match op {
         Jump::J => {
-            core[PC] = destination(core[PC], i.imm);
+            registers.core[PC] = destination(registers.core[PC], i.imm);
             How::Done
         }
         Jump::Jl => {
-            a[11] = i.next;
-            core[PC] = destination(core[PC], i.imm);
+            registers.a[11] = i.next;
+            registers.core[PC] = destination(registers.core[PC], i.imm);
             How::Done
         }
         Jump::Ji => {
             let x = i.a;
-            core[PC] = new_pc(a[x]);
+            registers.core[PC] = new_pc(registers.a[x]);
             How::Done
         }
-        Jump::Jeq => compare_and_jump(d, a, core, op, i),
-        Jump::Jne => compare_and_jump(d, a, core, op, i),
-        Jump::Jlt => compare_and_jump(d, a, core, op, i),
-        Jump::JltU => compare_and_jump(d, a, core, op, i),
-        Jump::Jge => compare_and_jump(d, a, core, op, i),
-        Jump::JgeU => compare_and_jump(d, a, core, op, i),
-        Jump::Loop => execute_loop(d, a, core, i),
+        Jump::Jeq => compare_and_jump(registers, op, i),
+        Jump::Jne => compare_and_jump(registers, op, i),
+        Jump::Jlt => compare_and_jump(registers, op, i),
+        Jump::JltU => compare_and_jump(registers, op, i),
+        Jump::Jge => compare_and_jump(registers, op, i),
+        Jump::JgeU => compare_and_jump(registers, op, i),
+        Jump::Loop => execute_loop(registers, i),
     }
 }

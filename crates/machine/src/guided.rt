@@ -14,7 +14,7 @@ ghost use Rattle.events.specs.declared.event.Event.TheVariants as event;
 use crate::run_steps::{Went, run_steps};
 use image::marks::{Guide, mark_image};
 use memory::address::Address;
-use registers::CORE;
+use registers::Registers;
 
 // So many steps or more of an image with short forms are worth its marks.
 const MARKED: u32 = 64;
@@ -26,15 +26,13 @@ fn run_marked(
     base2: Address,
     window2: &mut [u8],
     image: &[u8],
-    d: &mut [u32; 16],
-    a: &mut [u32; 16],
-    core: &mut [u32; CORE],
+    registers: &mut Registers,
     requests: &mut [u32; 16],
     words: &[u32; 96],
     n: u32,
 ) -> Went
-    requires { Ready image.now (registers d.old a.old core.old) (lent base window.old base2 window2.old) }
-    ensures { ran (outcome_of result.ending) result.made (registers d.new a.new core.new) requests.new (lent base window.new base2 window2.new) ≡ run_from n image.now (ranges_in words.now) (outcome.Made event.Instruction) 0 (registers d.old a.old core.old) requests.old (lent base window.old base2 window2.old) }
+    requires { Ready image.now registers.old (lent base window.old base2 window2.old) }
+    ensures { ran (outcome_of result.ending) result.made registers.new requests.new (lent base window.new base2 window2.new) ≡ run_from n image.now (ranges_in words.now) (outcome.Made event.Instruction) 0 registers.old requests.old (lent base window.old base2 window2.old) }
 {
     let mut marks = [0; 4096];
     let shift = mark_image(image, &mut marks);
@@ -49,9 +47,7 @@ fn run_marked(
             shift: shift,
         },
         &marks,
-        d,
-        a,
-        core,
+        registers,
         requests,
         words,
         n,
@@ -66,21 +62,19 @@ pub fn run_guided(
     window2: &mut [u8],
     image: &[u8],
     long: bool,
-    d: &mut [u32; 16],
-    a: &mut [u32; 16],
-    core: &mut [u32; CORE],
+    registers: &mut Registers,
     requests: &mut [u32; 16],
     words: &[u32; 96],
     n: u32,
 ) -> Went
-    requires ready { Ready image.now (registers d.old a.old core.old) (lent base window.old base2 window2.old) }
+    requires ready { Ready image.now registers.old (lent base window.old base2 window2.old) }
     requires all_long { long ≡ true → long_only image.now ≡ true }
-    ensures { ran (outcome_of result.ending) result.made (registers d.new a.new core.new) requests.new (lent base window.new base2 window2.new) ≡ run_from n image.now (ranges_in words.now) (outcome.Made event.Instruction) 0 (registers d.old a.old core.old) requests.old (lent base window.old base2 window2.old) }
+    ensures { ran (outcome_of result.ending) result.made registers.new requests.new (lent base window.new base2 window2.new) ≡ run_from n image.now (ranges_in words.now) (outcome.Made event.Instruction) 0 registers.old requests.old (lent base window.old base2 window2.old) }
 {
     if !long {
         if MARKED <= n {
             return run_marked(
-                base, window, base2, window2, image, d, a, core, requests, words, n,
+                base, window, base2, window2, image, registers, requests, words, n,
             );
         }
     }
@@ -96,9 +90,7 @@ pub fn run_guided(
             shift: 0,
         },
         &none,
-        d,
-        a,
-        core,
+        registers,
         requests,
         words,
         n,

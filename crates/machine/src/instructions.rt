@@ -14,7 +14,7 @@ use execute::{ending_of, execute_instruction, steady};
 use image::fetch::{index_from, next_after, read_record};
 use image::marks::Guide;
 use memory::address::Address;
-use registers::{CORE, PC};
+use registers::{PC, Registers};
 use spans::index::place_at;
 use spans::{Ahead, Span, look_ahead};
 
@@ -34,18 +34,16 @@ fn steady_steps(
     image: &[u8],
     guide: Guide,
     marks: &[u64],
-    d: &mut [u32; 16],
-    a: &mut [u32; 16],
-    core: &mut [u32; CORE],
+    registers: &mut Registers,
     words: &[u32; 96],
     s: Span,
     n: u32,
 ) -> Paced
-    requires ready { Ready image.now (registers d.old a.old core.old) (lent base window.old base2 window2.old) }
+    requires ready { Ready image.now registers.old (lent base window.old base2 window2.old) }
     requires guides { Guides image.now guide marks.now }
-    requires lies_ahead { LiesAhead image.now guide.long core.old (ranges_in words.now) (Ahead.Records s) }
+    requires lies_ahead { LiesAhead image.now guide.long registers.old.core (ranges_in words.now) (Ahead.Records s) }
     requires n_nonzero { 0 < n }
-    ensures { Paces n image.now (ranges_in words.now) (registers d.old a.old core.old) (lent base window.old base2 window2.old) result (registers d.new a.new core.new) (lent base window.new base2 window2.new) }
+    ensures { Paces n image.now (ranges_in words.now) registers.old (lent base window.old base2 window2.old) result registers.new (lent base window.new base2 window2.new) }
 {
     let mut at = s.at;
     let mut left = n;
@@ -54,7 +52,7 @@ fn steady_steps(
     let mut after = next;
     loop {
         let i = read_record(image, at + 8 * k as usize, next);
-        let done = execute_instruction(base, window, base2, window2, d, a, core, words, i);
+        let done = execute_instruction(base, window, base2, window2, registers, words, i);
         let ending = ending_of(done);
         let Ok(_) = ending else {
             return Paced {
@@ -75,7 +73,7 @@ fn steady_steps(
                 left: left,
             };
         }
-        let pc = core[PC];
+        let pc = registers.core[PC];
         k = index_from(s.from, pc);
         next = std::num::wrapping_add_u32(pc, 4);
         if k < s.long {
@@ -120,24 +118,22 @@ pub fn instructions(
     image: &[u8],
     guide: Guide,
     marks: &[u64],
-    d: &mut [u32; 16],
-    a: &mut [u32; 16],
-    core: &mut [u32; CORE],
+    registers: &mut Registers,
     words: &[u32; 96],
     n: u32,
 ) -> Paced
-    requires ready { Ready image.now (registers d.old a.old core.old) (lent base window.old base2 window2.old) }
+    requires ready { Ready image.now registers.old (lent base window.old base2 window2.old) }
     requires guides { Guides image.now guide marks.now }
     requires n_nonzero { 0 < n }
-    ensures { Paces n image.now (ranges_in words.now) (registers d.old a.old core.old) (lent base window.old base2 window2.old) result (registers d.new a.new core.new) (lent base window.new base2 window2.new) }
+    ensures { Paces n image.now (ranges_in words.now) registers.old (lent base window.old base2 window2.old) result registers.new (lent base window.new base2 window2.new) }
 {
-    match look_ahead(image, guide, marks, core, words) {
+    match look_ahead(image, guide, marks, &registers.core, words) {
         Err(t) => {
-            let pc = core[PC];
-            after_one(trap(base, window, base2, window2, d, a, core, t, pc), n)
+            let pc = registers.core[PC];
+            after_one(trap(base, window, base2, window2, registers, t, pc), n)
         }
         Ok(s) => steady_steps(
-            base, window, base2, window2, image, guide, marks, d, a, core, words, s, n,
+            base, window, base2, window2, image, guide, marks, registers, words, s, n,
         ),
     }
 }

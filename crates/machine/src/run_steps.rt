@@ -17,7 +17,7 @@ use events::event::{Ending, Event, passed_on};
 use image::marks::Guide;
 use interrupts::{Best, best_source, clear, taken};
 use memory::address::Address;
-use registers::{CORE, ICR};
+use registers::{ICR, Registers};
 
 // The best source at the start of n steps. A single step with IE 0 takes none, and the sources are not looked through for it.
 fn first_source(sources: &[u32; 16], icr: u32, n: u32) -> Best
@@ -50,30 +50,26 @@ fn run_by_reference(
     image: &[u8],
     guide: Guide,
     marks: &[u64],
-    d: &mut [u32; 16],
-    a: &mut [u32; 16],
-    core: &mut [u32; CORE],
+    registers: &mut Registers,
     requests: &mut [u32; 16],
     words: &[u32; 96],
     n: u32,
 ) -> Went
-    requires ready { Ready image.now (registers d.old a.old core.old) (lent base window.old base2 window2.old) }
+    requires ready { Ready image.now registers.old (lent base window.old base2 window2.old) }
     requires guides { Guides image.now guide marks.now }
-    ensures { ran (outcome_of result.ending) result.made (registers d.new a.new core.new) requests.new (lent base window.new base2 window2.new) ≡ run_from n image.now (ranges_in words.now) (outcome.Made event.Instruction) 0 (registers d.old a.old core.old) requests.old (lent base window.old base2 window2.old) }
+    ensures { ran (outcome_of result.ending) result.made registers.new requests.new (lent base window.new base2 window2.new) ≡ run_from n image.now (ranges_in words.now) (outcome.Made event.Instruction) 0 registers.old requests.old (lent base window.old base2 window2.old) }
 {
-    let mut best = first_source(requests, core[ICR], n);
+    let mut best = first_source(requests, registers.core[ICR], n);
     let mut last = Event::Instruction;
     let mut left = n;
     while left != 0 {
-        if taken(core[ICR], best.level) {
+        if taken(registers.core[ICR], best.level) {
             let ending = passed_on(interrupt(
                 base,
                 window,
                 base2,
                 window2,
-                d,
-                a,
-                core,
+                registers,
                 best.source,
                 best.level,
             ));
@@ -90,7 +86,7 @@ fn run_by_reference(
             continue;
         }
         let p = instructions(
-            base, window, base2, window2, image, guide, marks, d, a, core, words, left,
+            base, window, base2, window2, image, guide, marks, registers, words, left,
         );
         let ending = p.ending;
         let Ok(e) = ending else {
@@ -117,16 +113,14 @@ pub fn run_steps(
     image: &[u8],
     guide: Guide,
     marks: &[u64],
-    d: &mut [u32; 16],
-    a: &mut [u32; 16],
-    core: &mut [u32; CORE],
+    registers: &mut Registers,
     requests: &mut [u32; 16],
     words: &[u32; 96],
     n: u32,
 ) -> Went
-    requires ready { Ready image.now (registers d.old a.old core.old) (lent base window.old base2 window2.old) }
+    requires ready { Ready image.now registers.old (lent base window.old base2 window2.old) }
     requires guides { Guides image.now guide marks.now }
-    ensures { ran (outcome_of result.ending) result.made (registers d.new a.new core.new) requests.new (lent base window.new base2 window2.new) ≡ run_from n image.now (ranges_in words.now) (outcome.Made event.Instruction) 0 (registers d.old a.old core.old) requests.old (lent base window.old base2 window2.old) }
+    ensures { ran (outcome_of result.ending) result.made registers.new requests.new (lent base window.new base2 window2.new) ≡ run_from n image.now (ranges_in words.now) (outcome.Made event.Instruction) 0 registers.old requests.old (lent base window.old base2 window2.old) }
 {
     let mut own_d = *d;
     let mut own_a = *a;

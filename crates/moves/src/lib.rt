@@ -13,81 +13,75 @@ use events::trap::GRWP;
 use image::fetch::Instruction;
 use integer::{Integer, compute};
 use operations::Move;
-use registers::{CORE, PC, PSW, guarded, minus, plus, second};
+use registers::{PC, PSW, Registers, guarded, minus, plus, second};
 
 // An integer operation: D[c] and PSW.
 pub fn execute_integer(
-    d: &mut [u32; 16],
-    a: &mut [u32; 16],
-    core: &mut [u32; CORE],
+    registers: &mut Registers,
     op: Integer,
     i: Instruction,
 )
     requires { FieldsHold i }
-    ensures { registers d.new a.new core.new ≡ integer_of op i (registers d.old a.old core.old) }
+    ensures { registers.new ≡ integer_of op i registers.old }
 {
     let c = i.c;
     let x = i.a;
-    let r = compute(op, d[x], second(d, i.b, i.imm), core[PSW]);
-    d[c] = r.word;
-    core[PSW] = r.psw;
-    core[PC] = i.next;
+    let r = compute(op, registers.d[x], second(&registers.d, i.b, i.imm), registers.core[PSW]);
+    registers.d[c] = r.word;
+    registers.core[PSW] = r.psw;
+    registers.core[PC] = i.next;
 }
 
 // Writes address register c, which GW guards.
 fn write_address(
-    d: &mut [u32; 16],
-    a: &mut [u32; 16],
-    core: &mut [u32; CORE],
+    registers: &mut Registers,
     c: usize,
     value: u32,
     next: u32,
 ) -> How
     requires { c < 16 }
-    ensures { ended result (registers d.new a.new core.new) ≡ ended_of (address_write c value next (registers d.old a.old core.old)) (registers d.old a.old core.old) }
+    ensures { ended result registers.new ≡ ended_of (address_write c value next registers.old) registers.old }
 {
-    if guarded(core[PSW], c) {
+    if guarded(registers.core[PSW], c) {
         return How::Trap(GRWP);
     }
-    a[c] = value;
-    core[PC] = next;
+    registers.a[c] = value;
+    registers.core[PC] = next;
     How::Done
 }
 
 // MOV.A, MOV.D, MOV.AA, ADD.A, SUB.A.
 pub fn execute_move(
-    d: &mut [u32; 16],
-    a: &mut [u32; 16],
-    core: &mut [u32; CORE],
+    registers: &mut Registers,
     op: Move,
     i: Instruction,
 ) -> How
     requires { FieldsHold i }
-    ensures { ended result (registers d.new a.new core.new) ≡ ended_of (move_of op i (registers d.old a.old core.old)) (registers d.old a.old core.old) }
+    ensures { ended result registers.new ≡ ended_of (move_of op i registers.old) registers.old }
 {
     let c = i.c;
     let x = i.a;
     match op {
         Move::MovA => {
-            let value = second(d, i.b, i.imm);
-            write_address(d, a, core, c, value, i.next)
+            let value = second(&registers.d, i.b, i.imm);
+            write_address(registers, c, value, i.next)
         }
         Move::MovD => {
-            d[c] = a[x];
-            core[PC] = i.next;
+            registers.d[c] = registers.a[x];
+            registers.core[PC] = i.next;
             How::Done
         }
         Move::MovAa => {
-            let value = a[x];
-            write_address(d, a, core, c, value, i.next)
+            let value = registers.a[x];
+            write_address(registers, c, value, i.next)
         }
         Move::AddA => {
-            let value = plus(a[x], second(a, i.b, i.imm));
-            write_address(d, a, core, c, value, i.next)
+            let value = plus(registers.a[x], second(&registers.a, i.b, i.imm));
+            write_address(registers, c, value, i.next)
         }
         Move::SubA => {
-            let value = minus(a[x], second(a, i.b, i.imm));
-            write_address(d, a, core, c, value, i.next)
+            let value = minus(registers.a[x], second(&registers.a, i.b, i.imm));
+            write_address(registers, c, value, i.next)
         }
     }
 }

@@ -12,73 +12,69 @@ use events::trap::{OVF, PRIV, SOVF};
 use fields::psw;
 use image::fetch::Instruction;
 use operations::System;
-use registers::{CORE, ICR, PC, PSW};
+use registers::{ICR, PC, PSW, Registers};
 
 // ENABLE and DISABLE: IE.
 fn set_enable(
-    d: &mut [u32; 16],
-    a: &mut [u32; 16],
-    core: &mut [u32; CORE],
+    registers: &mut Registers,
     ie: bool,
     next: u32,
 ) -> How
-    ensures { ended result (registers d.new a.new core.new) ≡ ended_of (enable_of ie next (registers d.old a.old core.old)) (registers d.old a.old core.old) }
+    ensures { ended result registers.new ≡ ended_of (enable_of ie next registers.old) registers.old }
 {
-    if psw::user0(core[PSW]) {
+    if psw::user0(registers.core[PSW]) {
         return How::Trap(PRIV);
     }
-    let before = control_of(core);
-    core[ICR] = fields::icr::written(core[ICR], ie, fields::icr::priority(core[ICR]));
-    core[PC] = next;
-    settled(before, core)
+    let before = control_of(&registers.core);
+    registers.core[ICR] = fields::icr::written(registers.core[ICR], ie, fields::icr::priority(registers.core[ICR]));
+    registers.core[PC] = next;
+    settled(before, &registers.core)
 }
 
 pub fn execute_system(
-    d: &mut [u32; 16],
-    a: &mut [u32; 16],
-    core: &mut [u32; CORE],
+    registers: &mut Registers,
     op: System,
     i: Instruction,
 ) -> How
     requires { FieldsHold i }
-    ensures { ended result (registers d.new a.new core.new) ≡ ended_of (system_of op i (registers d.old a.old core.old)) (registers d.old a.old core.old) }
+    ensures { ended result registers.new ≡ ended_of (system_of op i registers.old) registers.old }
 {
     match op {
-        System::Enable => set_enable(d, a, core, true, i.next),
-        System::Disable => set_enable(d, a, core, false, i.next),
+        System::Enable => set_enable(registers, true, i.next),
+        System::Disable => set_enable(registers, false, i.next),
         System::Mfcr => {
             let c = i.c;
-            d[c] = read_core(core, i.imm);
-            core[PC] = i.next;
+            registers.d[c] = read_core(&registers.core, i.imm);
+            registers.core[PC] = i.next;
             How::Done
         }
         System::Mtcr => {
-            if !psw::supervisor(core[PSW]) {
+            if !psw::supervisor(registers.core[PSW]) {
                 return How::Trap(PRIV);
             }
             let x = i.a;
-            let before = control_of(core);
-            write_core(core, i.imm, d[x]);
-            core[PC] = i.next;
-            settled(before, core)
+            let before = control_of(&registers.core);
+            write_core(&mut registers.core, i.imm, registers.d[x]);
+            registers.core[PC] = i.next;
+            settled(before, &registers.core)
         }
         System::Trapv => {
-            if psw::overflow(core[PSW]) {
+            if psw::overflow(registers.core[PSW]) {
                 return How::TrapAfter(OVF);
             }
-            core[PC] = i.next;
+            registers.core[PC] = i.next;
             How::Done
         }
         System::Trapsv => {
-            if psw::sticky_overflow(core[PSW]) {
+            if psw::sticky_overflow(registers.core[PSW]) {
                 return How::TrapAfter(SOVF);
             }
-            core[PC] = i.next;
+            registers.core[PC] = i.next;
             How::Done
         }
         System::Rstv => {
-            core[PSW] = psw::reset(core[PSW]);
-            core[PC] = i.next;
+            registers.core[PSW] = psw::reset(registers.core[PSW]);
+            registers.core[PC] = i.next;
             How::Done
         }
     }

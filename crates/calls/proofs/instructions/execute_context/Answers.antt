@@ -6,7 +6,7 @@ use Rattle.calls.proofs.instructions.execute_context.Goals as goal
 pub returns-in-Call : goal.returns-in-Call
 returns-in-Call c =
     let g = c.args in
-    rw (call_told g.i (registers g.d.now g.a.now g.core.now) c.target-to.result _ c.target-to.ensures.0 c.target-to.ensures.1 c.in-Call.is, c.passed_on.ensures) c.call.ensures
+    rw (call_told g.i g.registers.now c.target-to.result _ c.target-to.ensures.0 c.target-to.ensures.1 c.in-Call.is, c.passed_on.ensures) c.call.ensures
 
 pub returns-in-Ret : goal.returns-in-Ret
 unfolding context_op

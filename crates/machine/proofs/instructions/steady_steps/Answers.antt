@@ -9,7 +9,7 @@ pub next_after-next-requires : goal.next_after-next-requires
 next_after-next-requires c =
     let p = c.requires in
     let g = c.args in
-    let s = (ahead_known g.image.now g.core.now (ranges_in g.words.now) g.guide.long g.s (image_holds _ _ _ p.ready.accepted) p.guides.all_long p.lies_ahead).0 in
+    let s = (ahead_known g.image.now g.registers.now.core (ranges_in g.words.now) g.guide.long g.s (image_holds _ _ _ p.ready.accepted) p.guides.all_long p.lies_ahead).0 in
     omega (arith, s.lies.inside, s.spans.some)
 
 pub loop-left-init : goal.loop-left-init
