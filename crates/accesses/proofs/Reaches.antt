@@ -30,7 +30,7 @@ module _ (w : Windows) (len : ℕ) (core : List ℕ) (rs : List Range) (right : 
   reach_passes = by (check_of core rs right address)
     where
       by : (c : Result ⊤ Trap) → checked_reach c (aligned_reach w len guarded size alignment address) ≡ Ok at → c ≡ (Ok tt)
-      by (Ok tt) e = refl
+      by (Ok _) e = refl
       by (Err t) e = never t at e
 
   -- the data lies in a window
@@ -54,7 +54,7 @@ module _ (w : Windows) (len : ℕ) (core : List ℕ) (rs : List Range) (right : 
       checked : (c : Result ⊤ Trap) → checked_reach c (cond guarded (Err GRWP) (cond (eqb (address.0 % alignment) 0) (placed_reach (placed_at w len size address)) (Err ALN))) ≡ Ok at
           → placed_at w len size address ≡ Some at
       checked (Err t) e = never t at e
-      checked (Ok tt) e = unguarded guarded e
+      checked (Ok _) e = unguarded guarded e
 
   pub reach_inside : reach_of w len core rs right guarded size alignment address ≡ Ok at → Within w.split len at size
   reach_inside e = place_found _ _ _ _ _ (reach_found e)

@@ -28,7 +28,7 @@ aligned_reach w len guarded size alignment address =
 
 abbrev pub checked_reach : Result ⊤ Trap → Result ℕ Trap → Result ℕ Trap
 checked_reach (Err t) reach = Err t
-checked_reach (Ok tt) reach = reach
+checked_reach (Ok _) reach = reach
 
 -- an access of `size` bytes at an address that has to be a multiple of `alignment`, in two windows of len bytes in all
 unfoldable pub reach_of : Windows → ℕ → List ℕ → List Range → Right → Bool → ℕ → ℕ → Address → Result ℕ Trap

@@ -3,7 +3,6 @@
 ghost use Rattle.std.specs.Prelude.{◌≡◌, ◌<◌};
 ghost use Rattle.memory.specs.Memory.{lent};
 ghost use Rattle.registers.specs.Registers.{registers, with_d, with_pc};
-ghost use Rattle.protection.specs.Range.{ranges_in};
 ghost use Rattle.image.specs.Fetch.{FieldsHold};
 ghost use Rattle.acts.specs.Acts.{Sets, ended, ended_of};
 ghost use Rattle.accesses.specs.Load.{extend_byte, extend_half, load_of};
@@ -62,12 +61,12 @@ pub fn execute_load(
     base2: Address,
     window2: &[u8],
     registers: &mut Registers,
-    ranges: &[u32; 96],
+    ranges: &[Range; 32],
     op: Load,
     i: Instruction,
 ) -> How
     requires { FieldsHold i }
-    ensures { ended result registers.new ≡ ended_of (load_of op i registers.old (ranges_in ranges.now) (lent base window.now base2 window2.now)) registers.old }
+    ensures { ended result registers.new ≡ ended_of (load_of op i registers.old ranges.now (lent base window.now base2 window2.now)) registers.old }
 {
     let c = i.c;
     let x = i.a;

@@ -2,7 +2,6 @@
 
 ghost use Rattle.std.specs.Prelude.{◌≡◌, ◌++◌, length, ◌<◌};
 ghost use Rattle.memory.specs.Memory.{windows};
-ghost use Rattle.protection.specs.Range.{ranges_in};
 ghost use Rattle.accesses.specs.Reach.{data_address, aligned_reach, reach_of};
 
 use areas::link::{Place, place_at};
@@ -58,7 +57,7 @@ pub fn reach_data(
     base2: Address,
     window2: &[u8],
     core: &[u32; CORE],
-    ranges: &[u32; 96],
+    ranges: &[Range; 32],
     right: Right,
     guarded: bool,
     size: u8,
@@ -66,7 +65,7 @@ pub fn reach_data(
     address: Address,
 ) -> Result<usize, Trap>
     requires { 0 < alignment }
-    ensures { result ≡ reach_of (windows base (length window.now) base2) (length (window.now ++ window2.now)) core.now (ranges_in ranges.now) right guarded size alignment address }
+    ensures { result ≡ reach_of (windows base (length window.now) base2) (length (window.now ++ window2.now)) core.now ranges.now right guarded size alignment address }
 {
     match check_access(core, ranges, right, address) {
         Err(t) => Err(t),

@@ -3,7 +3,6 @@
 ghost use Rattle.std.specs.Prelude.{◌≡◌};
 ghost use Rattle.memory.specs.Memory.{lent};
 ghost use Rattle.registers.specs.Registers.{registers};
-ghost use Rattle.protection.specs.Range.{ranges_in};
 ghost use Rattle.image.specs.Fetch.{FieldsHold};
 ghost use Rattle.acts.specs.Acts.{did, perform_of};
 ghost use Rattle.accesses.specs.Store.{store_of};
@@ -25,12 +24,12 @@ pub fn execute_store(
     base2: Address,
     window2: &mut [u8],
     registers: &mut Registers,
-    ranges: &[u32; 96],
+    ranges: &[Range; 32],
     op: Store,
     i: Instruction,
 ) -> How
     requires { FieldsHold i }
-    ensures { did result registers.new (lent base window.new base2 window2.new) ≡ perform_of (store_of op i registers.old (ranges_in ranges.now) (lent base window.old base2 window2.old)) registers.old (lent base window.old base2 window2.old) }
+    ensures { did result registers.new (lent base window.new base2 window2.new) ≡ perform_of (store_of op i registers.old ranges.now (lent base window.old base2 window2.old)) registers.old (lent base window.old base2 window2.old) }
 {
     let c = i.c;
     let x = i.a;

@@ -98,7 +98,7 @@ save_did then r (Ok Depleted) core m = did how.Depleted (then (registers r.d r.a
 
 abbrev pub return_did : (Registers → Registers) → Registers → Result ⊤ Stop → Registers → Memory → Did
 return_did then r (Err Outside) q m = did (how.Stopped stop.Outside) q m
-return_did then r (Ok tt) q m = doing r (then q) m
+return_did then r (Ok _) q m = doing r (then q) m
 
 -- an act performed, up to the entry of a trap that follows it. This alone changes memory. The heads are changed by a save and a return, and by an MTCR to FCX or PCXI: an act that ends with them set
 abbrev pub perform_of : Act → Registers → Memory → Did

@@ -44,5 +44,5 @@ wrong_length = packed_of 5 0 0 0 0
 
 -- 6 a start that is accepted
 abbrev pub verdict_answer : Result ⊤ Refusal → ℕ
-verdict_answer (Ok tt) = packed_of 6 0 0 0 0
+verdict_answer (Ok _) = packed_of 6 0 0 0 0
 verdict_answer (Err x) = refusal_answer x 0

@@ -23,14 +23,7 @@ pub enum Spot {
     Neither,
 }
 
-// The same, counted through the first window and then through the second.
-#[derive(Clone, Copy)]
-pub enum Place {
-    At(usize),
-    Outside,
-}
-
-// The place of some bytes from an address on, in a window of len bytes at base.
+// The place of some bytes from an address on, in a window of len bytes at base, if they lie in it.
 fn place_in(base: Address, len: usize, size: u8, a: Address) -> Option<usize>
     ensures { result ≡ placed_in base len size a }
 {
@@ -66,7 +59,7 @@ pub fn spot_at(
     }
 }
 
-// The place of some bytes from an address on.
+// The place of some bytes from an address on, counted through the first window and then through the second, if they lie in one.
 pub fn place_at(
     base: Address,
     window: &[u8],
@@ -92,7 +85,13 @@ pub fn spot_of(base: Address, window: &[u8], base2: Address, window2: &[u8], l: 
 }
 
 // The place of a link's area.
-pub fn locate(base: Address, window: &[u8], base2: Address, window2: &[u8], l: Link) -> Option<usize>
+pub fn locate(
+    base: Address,
+    window: &[u8],
+    base2: Address,
+    window2: &[u8],
+    l: Link,
+) -> Option<usize>
     ensures { result ≡ place_of (lent base window.now base2 window2.now) l }
 {
     place_at(base, window, base2, window2, 64, area_address(l))

@@ -24,7 +24,7 @@ previous_of half word = cond (eqb (link_of word).0 0) (Err CSU) (cond (is_of hal
 
 abbrev pub if_there : Act → Result ⊤ Trap → Act
 if_there act (Err t) = Ends (acts.Traps t)
-if_there act (Ok tt) = act
+if_there act (Ok _) = act
 
 -- RET: PC = A11, upper return, all of PSW. 3/3 where CDC would underflow. ICR stays
 unfoldable pub ret_of : Registers → Act

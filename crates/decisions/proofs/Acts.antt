@@ -88,7 +88,7 @@ module _ (quiet : Type 0) {r : Registers} (w : Valid r) (i : Instruction) (o : D
 
   -- returns
   abbrev PreviousSays : Half → Result ⊤ Trap → Type 0
-  PreviousSays half (Ok tt) = HasPrevious half (pcxi r)
+  PreviousSays half (Ok _) = HasPrevious half (pcxi r)
   PreviousSays half (Err t) = TrapBytes t
 
   half_is : (half : Half) → is_of half (pcxi r) ≡ true → pcxi_ul (pcxi r) ≡ ul_of half
@@ -107,7 +107,7 @@ module _ (quiet : Type 0) {r : Registers} (w : Valid r) (i : Instruction) (o : D
 
   there_sound : (half : Half) (act : Act) → (HasPrevious half (pcxi r) → ActSound quiet r m act) → (p : Result ⊤ Trap) → PreviousSays half p → ActSound quiet r m (if_there act p)
   there_sound half act k (Err t) h = h
-  there_sound half act k (Ok tt) h = k h
+  there_sound half act k (Ok _) h = k h
 
   to_word : Word (new_pc (A r 11))
   to_word = even_word (A r 11) (w.a.each 11)

@@ -26,8 +26,8 @@ use Rattle.std.specs.Prelude.{Err, None, Ok, Option, Result, Some, ⊤}
 -- a fetch clears no request
 clears_none : (xs : List ℕ) (c : Result ⊤ Trap) (f : Option Instruction) → cleared_by xs (check_begins c f) ≡ xs
 clears_none xs (Err t) f = refl
-clears_none xs (Ok tt) None = refl
-clears_none xs (Ok tt) (Some i) = refl
+clears_none xs (Ok _) None = refl
+clears_none xs (Ok _) (Some i) = refl
 
 fetch_clears : (xs img core : List ℕ) (rs : List Range) (pc : ℕ) → cleared_by xs (fetching_at img core rs pc) ≡ xs
 unfolding fetching_at

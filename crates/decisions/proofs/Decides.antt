@@ -79,7 +79,7 @@ module _ {img : List ℕ} (b : Bytes img) (pc : ℕ) (e : pc % 2 ≡ 0) where
     where
       by : (c : Result ⊤ Trap) → CheckBytes c → Known (check_begins c (fetch_of img pc))
       by (Err t) h = h
-      by (Ok tt) h = fetch_known
+      by (Ok _) h = fetch_known
 
 module _ {img : List ℕ} (bi : Bytes img) {r : Registers} (w : Valid r) (xs : List ℕ) (rs : List Range) where
   beginning_known : Known (beginning_of img r.core xs rs)

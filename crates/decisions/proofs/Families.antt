@@ -120,7 +120,7 @@ module _ (quiet : Type 0) {r : Registers} (w : Valid r) where
 
 -- what protection says is a trap of bytes
 abbrev pub CheckBytes : Result ⊤ Trap → Type 0
-CheckBytes (Ok tt) = Unit {0}
+CheckBytes (Ok _) = Unit {0}
 CheckBytes (Err t) = TrapBytes t
 
 denied_bytes : (right : Right) → TrapBytes (denied_of right)
@@ -154,7 +154,7 @@ module _ (w : Windows) (len : ℕ) (core : List ℕ) (rs : List Range) (right : 
 
   checked_bytes : (c : Result ⊤ Trap) → CheckBytes c → ReachBytes (checked_reach c (aligned_reach w len guarded size alignment address))
   checked_bytes (Err t) h = h
-  checked_bytes (Ok tt) h = aligned_bytes
+  checked_bytes (Ok _) h = aligned_bytes
 
   pub reach_bytes : ReachBytes (reach_of w len core rs right guarded size alignment address)
   unfolding reach_of

@@ -28,7 +28,7 @@ fetch_begins (Some i) = Executes i
 -- 1/4 and 1/5 before it
 abbrev pub check_begins : Result ⊤ Trap → Option Instruction → Beginning
 check_begins (Err t) f = Traps t
-check_begins (Ok tt) f = fetch_begins f
+check_begins (Ok _) f = fetch_begins f
 
 -- the fetch at an address
 unfoldable pub fetching_at : List ℕ → List ℕ → List Range → ℕ → Beginning

@@ -33,7 +33,7 @@ use Rattle.inputs.specs.declared.verdict.Refusal.{Refusal}
 -- only a start that is accepted is answered so
 accepted : (v : Result ⊤ Refusal) → verdict_answer v ≡ verdict_answer (Ok tt) → v ≡ (Ok tt)
 unfolding packed_of
-accepted (Ok tt) e = refl
+accepted (Ok _) e = refl
 accepted (Err x) e = absurd (omega arith)
 
 wrong_differs : wrong_length ≡ verdict_answer (Ok tt) → ⊥

@@ -13,20 +13,13 @@ pub enum Event {
     Trap(Trap),
 }
 
-// What a step that is accepted cannot be made for.
+// What a step that is accepted cannot be made for. Such a step answers its event, or why it stopped: a `Result<Event, Stop>`.
 #[derive(Clone, Copy)]
 pub enum Stop {
     // a save with FCX link 0
     NoArea,
     // a save or return whose area lies in neither window
     Outside,
-}
-
-// A step that is accepted.
-#[derive(Clone, Copy)]
-pub enum Ending {
-    Made(Event),
-    Stopped(Stop),
 }
 
 // Document 01's number of a stop.

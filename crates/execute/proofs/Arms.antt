@@ -74,7 +74,7 @@ module _ (next : ℕ) (r : Registers) (m : Memory) where
   return_is : (then : Registers → Registers) (s : Result ⊤ Stop) (q : Registers) (n : Memory) → finish_did next (return_did then r s q n) ≡ returning_by then s q n
   unfolding finish_of
   return_is then (Err Outside) q n = refl
-  return_is then (Ok tt) q n = done_finish _ n
+  return_is then (Ok _) q n = done_finish _ n
 
   act_is : (a : Act) → finish_did next (perform_of a r m) ≡ performed_of (act_decides next r a) r m
   unfolding finish_of enter_of
@@ -113,7 +113,7 @@ module _ (r : Registers) where
 
   return_told : (then : Registers → Registers) (s : Result ⊤ Stop) (q : Registers) (n : Memory) → ToldDid r (return_did then r s q n)
   return_told then (Err Outside) q n = tt
-  return_told then (Ok tt) q n = done_told _
+  return_told then (Ok _) q n = done_told _
 
   act_told : (m : Memory) (a : Act) → ToldDid r (perform_of a r m)
   act_told m (acts.Ends (acts.Sets q)) = done_told q

@@ -47,7 +47,7 @@ act_decides next r (acts.Return half then) = Return half then
 
 abbrev pub returning_by : (Registers → Registers) → Result ⊤ Stop → Registers → Memory → MadeOf
 returning_by then (Err Outside) q m = made (Err stop.Outside) q m
-returning_by then (Ok tt) q m = made (Ok event.Instruction) (then q) m
+returning_by then (Ok _) q m = made (Ok event.Instruction) (then q) m
 
 -- a decision performed. This alone changes memory. The heads of the lists are changed by a save and a return; a Keep may have them set by an MTCR
 abbrev pub performed_of : Decision → Registers → Memory → MadeOf

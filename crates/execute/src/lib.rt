@@ -5,7 +5,6 @@
 ghost use Rattle.std.specs.Prelude.{◌≡◌};
 ghost use Rattle.memory.specs.Memory.{lent};
 ghost use Rattle.registers.specs.Registers.{registers};
-ghost use Rattle.protection.specs.Range.{ranges_in};
 ghost use Rattle.image.specs.Fetch.{FieldsHold};
 ghost use Rattle.entries.specs.Entry.{made};
 ghost use Rattle.acts.specs.Acts.{did, perform_of};
@@ -59,11 +58,11 @@ fn perform(
     base2: Address,
     window2: &mut [u8],
     registers: &mut Registers,
-    ranges: &[u32; 96],
+    ranges: &[Range; 32],
     i: Instruction,
 ) -> How
     requires { FieldsHold i }
-    ensures { did result registers.new (lent base window.new base2 window2.new) ≡ perform_of (act_of i registers.old (ranges_in ranges.now) (lent base window.old base2 window2.old)) registers.old (lent base window.old base2 window2.old) }
+    ensures { did result registers.new (lent base window.new base2 window2.new) ≡ perform_of (act_of i registers.old ranges.now (lent base window.old base2 window2.old)) registers.old (lent base window.old base2 window2.old) }
 {
     let op = i.op;
     match op {
@@ -118,11 +117,11 @@ pub fn execute_instruction(
     base2: Address,
     window2: &mut [u8],
     registers: &mut Registers,
-    ranges: &[u32; 96],
+    ranges: &[Range; 32],
     i: Instruction,
 ) -> Executed
     requires { FieldsHold i }
-    ensures performed { made (ending_of result) registers.new (lent base window.new base2 window2.new) ≡ execute_of i registers.old (ranges_in ranges.now) (lent base window.old base2 window2.old) }
+    ensures performed { made (ending_of result) registers.new (lent base window.new base2 window2.new) ≡ execute_of i registers.old ranges.now (lent base window.old base2 window2.old) }
     ensures steady { is_steady result ≡ stays_steady (ending_of result) registers.old registers.new }
 {
     let how = perform(base, window, base2, window2, registers, ranges, i);

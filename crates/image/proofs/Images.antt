@@ -92,7 +92,7 @@ module _ (img : List ℕ) where
       first = omega arith
 
       go : (t : Result ⊤ ImageFault) → table_of img ≡ t → TableSays img t → ImageSays img (image_of img)
-      go (Ok tt) e r = rw (image_records e) (rw first at (records_say img r (total_of img) 0 (omega arith) (λ j h. absurd (omega arith))))
+      go (Ok _) e r = rw (image_records e) (rw first at (records_say img r (total_of img) 0 (omega arith) (λ j h. absurd (omega arith))))
       go (Err (Err (Table p))) e r = rw (image_table p e) r
 
   none : {p : ℕ} → TableRight img → TableFault img p → ⊥
@@ -100,13 +100,13 @@ module _ (img : List ℕ) where
 
   -- and they say nothing else
   pub image_only : (x y : Result ⊤ ImageFault) → ImageSays img x → ImageSays img y → x ≡ y
-  image_only (Ok tt) (Ok tt) r s = refl
-  image_only (Ok tt) (Err (Table p)) r s = absurd (none r.table s)
-  image_only (Ok tt) (Err (Record k)) r s = absurd (s.fault (r.records k s.inside))
-  image_only (Err (Table p)) (Ok tt) s r = absurd (none r.table s)
+  image_only (Ok _) (Ok _) r s = refl
+  image_only (Ok _) (Err (Table p)) r s = absurd (none r.table s)
+  image_only (Ok _) (Err (Record k)) r s = absurd (s.fault (r.records k s.inside))
+  image_only (Err (Table p)) (Ok _) s r = absurd (none r.table s)
   image_only (Err (Table p)) (Err (Table q)) r s = let z = table_only img (Err (Err (Table p))) (Err (Err (Table q))) r s in let w : p ≡ q = cc in ap Err (Table w)
   image_only (Err (Table p)) (Err (Record k)) r s = absurd (none s.table r)
-  image_only (Err (Record k)) (Ok tt) s r = absurd (s.fault (r.records k s.inside))
+  image_only (Err (Record k)) (Ok _) s r = absurd (s.fault (r.records k s.inside))
   image_only (Err (Record k)) (Err (Table p)) s r = absurd (none s.table r)
   image_only (Err (Record k)) (Err (Record j)) r s = ap Err (Record (go (dec_le k j) (dec_le j k)))
     where

@@ -19,7 +19,7 @@ use Rattle.image.specs.declared.table.ImageFault.TheVariants.{Record, Table}
 
 -- ---- whether they all hold
 pub held_is : (c : Result ⊤ ImageFault) → all_hold c ≡ true → c ≡ (Ok tt)
-held_is (Ok tt) e = refl
+held_is (Ok _) e = refl
 held_is (Err (Table p)) e = absurd (never (sym e))
 held_is (Err (Record k)) e = absurd (never (sym e))
 

@@ -136,9 +136,9 @@ module _ (img : List ℕ) where
 
   -- and it says nothing else
   pub table_only : (x y : Result ⊤ ImageFault) → TableSays img x → TableSays img y → x ≡ y
-  table_only (Ok tt) (Ok tt) r s = refl
-  table_only (Ok tt) (Err (Table p)) r s = absurd (clash r s)
-  table_only (Err (Table p)) (Ok tt) s r = absurd (clash r s)
+  table_only (Ok _) (Ok _) r s = refl
+  table_only (Ok _) (Err (Table p)) r s = absurd (clash r s)
+  table_only (Err (Table p)) (Ok _) s r = absurd (clash r s)
   table_only (Err (Table p)) (Err (Table q)) r s = ap Err (Table (same r s))
     where
       ordered : (i j : ℕ) → ((x : ℕ) → x < i → EntryAt img x) → (EntryAt img j → ⊥) → i ≤ j

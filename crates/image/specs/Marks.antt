@@ -21,7 +21,7 @@ long_only img = long_from (total_of img) img (bodies_of img)
 
 -- asked of an image that holds alone
 abbrev pub long_in : List ℕ → Result ⊤ ImageFault → Bool
-long_in img (Ok tt) = long_only img
+long_in img (Ok _) = long_only img
 long_in img (Err (Table p)) = false
 long_in img (Err (Record k)) = false
 

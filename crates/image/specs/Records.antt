@@ -22,7 +22,7 @@ records_from (suc n) img at k = cond (record_at img at) (records_from n img (at 
 
 -- whether every record holds
 abbrev pub all_hold : Result ⊤ ImageFault → Bool
-all_hold (Ok tt) = true
+all_hold (Ok _) = true
 all_hold (Err (Table p)) = false
 all_hold (Err (Record k)) = false
 
@@ -32,7 +32,7 @@ total_of img = (length img - bodies_of img) / 8
 
 abbrev pub image_by : List ℕ → Result ⊤ ImageFault → Result ⊤ ImageFault
 image_by img (Err (Err (Table p))) = Err (Table p)
-image_by img (Ok tt) = records_from (total_of img) img (bodies_of img) 0
+image_by img (Ok _) = records_from (total_of img) img (bodies_of img) 0
 
 -- rule 2, then rule 3
 unfoldable pub image_of : List ℕ → Result ⊤ ImageFault

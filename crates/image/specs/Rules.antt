@@ -55,7 +55,7 @@ pub data TableFault (img : List ℕ) : ℕ → Type 0 where
   left_over : {p : ℕ} → Counted img → ((j : ℕ) → j < entries_of img → EntryAt img j) → (start_of img (entries_of img) ≢ length img) → p ≡ entries_of img → TableFault img p
 
 abbrev pub TableSays : List ℕ → Result ⊤ ImageFault → Type 0
-TableSays img (Ok tt) = TableRight img
+TableSays img (Ok _) = TableRight img
 TableSays img (Err (Table p)) = TableFault img p
 
 -- a record's operation by its number, and its other bytes, are in their bounds; the operations that compare two registers refuse b = 16
@@ -85,6 +85,6 @@ pub record RecordFault (img : List ℕ) (k : ℕ) : Type 0 where
   pub fault : RecordAt img k → ⊥
 
 abbrev pub ImageSays : List ℕ → Result ⊤ ImageFault → Type 0
-ImageSays img (Ok tt) = ImageRight img
+ImageSays img (Ok _) = ImageRight img
 ImageSays img (Err (Table p)) = TableFault img p
 ImageSays img (Err (Record k)) = RecordFault img k

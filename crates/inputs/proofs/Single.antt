@@ -34,7 +34,7 @@ module _ (m : Memory) where
       by (hold e r a) = rw e (record { right = r; apart = a })
 
   pub windows_is : (v : Result ⊤ Refusal) → WindowsSay m v → v ≡ window_verdict m
-  windows_is (Ok tt) w = sym (windows_hold _ _ _ _ w.right w.apart)
+  windows_is (Ok _) w = sym (windows_hold _ _ _ _ w.right w.apart)
   windows_is (Err Window) d = sym (windows_wrong _ _ _ _ d)
   windows_is (Err Overlap) (r, d) = sym (windows_overlap _ _ _ _ r d)
   windows_is (Err (Table entry)) s = absurd s
@@ -49,7 +49,7 @@ module _ (m : Memory) where
 -- ---- rules 2 and 3
 module _ (img : List ℕ) where
   contents_by : (c : Result ⊤ ImageFault) → ImageSays img c → ContentsSay img (image_said c)
-  contents_by (Ok tt) s = s
+  contents_by (Ok _) s = s
   contents_by (Err (Table entry)) s = s
   contents_by (Err (Record index)) s = s
 
@@ -57,7 +57,7 @@ module _ (img : List ℕ) where
   image_is c s = image_only img (image_of img) c (image_says img) s
 
   contents_is : (v : Result ⊤ Refusal) → ContentsSay img v → v ≡ image_verdict img
-  contents_is (Ok tt) s = rw (image_is (Ok tt) s)
+  contents_is (Ok _) s = rw (image_is (Ok tt) s)
   contents_is (Err Window) s = absurd s
   contents_is (Err Overlap) s = absurd s
   contents_is (Err (Table entry)) s = rw (image_is (Err (Table entry)) s)
@@ -79,7 +79,7 @@ module _ (pc : ℕ) where
       go (no d) = rw (ne_eqb (pc % 2) 0 d) d
 
   pc_is : (v : Result ⊤ Refusal) → PcSays pc v → v ≡ pc_verdict pc
-  pc_is (Ok tt) e = rw (eq-eqb (pc % 2) 0 e)
+  pc_is (Ok _) e = rw (eq-eqb (pc % 2) 0 e)
   pc_is (Err Window) s = absurd s
   pc_is (Err Overlap) s = absurd s
   pc_is (Err (Table entry)) s = absurd s
@@ -94,7 +94,7 @@ module _ (pc : ℕ) where
 -- ---- rules 5 and 6
 module _ (m : Memory) (fcx pcxi : ℕ) where
   lists_by : WindowsHold m → (e : Result ⊤ ListFault) → ListsCome m fcx pcxi e → ListsSay m fcx pcxi (lists_said e)
-  lists_by w (Ok tt) c = (w, sound_of m (windows_small m w) fcx pcxi c)
+  lists_by w (Ok _) c = (w, sound_of m (windows_small m w) fcx pcxi c)
   lists_by w (Err LinkOutside) c = (w, c)
   lists_by w (Err MetAgain) c = (w, c)
 
@@ -116,7 +116,7 @@ module _ (m : Memory) (fcx pcxi : ℕ) where
   ends w e c = rw (← windows_is m (Ok tt) w) (ap lists_said (sym (end_is w e c)))
 
   lists_is : (v : Result ⊤ Refusal) → ListsSay m fcx pcxi v → v ≡ lists_verdict m fcx pcxi
-  lists_is (Ok tt) (w, s) = ends w (Ok tt) (of_sound m (windows_small m w) fcx pcxi s)
+  lists_is (Ok _) (w, s) = ends w (Ok tt) (of_sound m (windows_small m w) fcx pcxi s)
   lists_is (Err Window) d = rw (← windows_is m (Err Window) d)
   lists_is (Err Overlap) s = rw (← windows_is m (Err Overlap) s)
   lists_is (Err (Table entry)) s = absurd s

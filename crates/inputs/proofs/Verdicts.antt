@@ -45,7 +45,7 @@ module _ (m : Memory) (img : List ℕ) (pc : ℕ) where
       go (no d) = rw (ne_eqb (pc % 2) 0 d) (w, i, d)
 
   image_verdict_lem : WindowsHold m → (c : Result ⊤ ImageFault) → ImageSays img c → StepSays m img pc (and_then (image_said c) (pc_verdict pc))
-  image_verdict_lem w (Ok tt) s = pc_verdict_lem w s
+  image_verdict_lem w (Ok _) s = pc_verdict_lem w s
   image_verdict_lem w (Err (Table entry)) s = (w, s)
   image_verdict_lem w (Err (Record index)) s = (w, s)
 
@@ -63,7 +63,7 @@ module _ (m : Memory) (img : List ℕ) (pc : ℕ) where
   passed w = windows_passed (sym (windows_is m (Ok tt) w))
 
   step_is : (v : Result ⊤ Refusal) → StepSays m img pc v → step_verdict m img pc ≡ v
-  step_is (Ok tt) r = passed r.windows ∙ rw (image_is img (Ok tt) r.image, eq-eqb (pc % 2) 0 r.even)
+  step_is (Ok _) r = passed r.windows ∙ rw (image_is img (Ok tt) r.image, eq-eqb (pc % 2) 0 r.even)
   step_is (Err Window) d = windows_refused Window (sym (windows_is m (Err Window) d))
   step_is (Err Overlap) s = windows_refused Overlap (sym (windows_is m (Err Overlap) s))
   step_is (Err (Table entry)) (w, s) = passed w ∙ rw (image_is img (Err (Table entry)) s)
@@ -78,7 +78,7 @@ module _ (m : Memory) (img : List ℕ) (pc : ℕ) where
 -- ---- all seven
 module _ (m : Memory) (img : List ℕ) (pc fcx pcxi : ℕ) where
   lists_verdict_lem : StepRight m img pc → (e : Result ⊤ ListFault) → ListsCome m fcx pcxi e → StartSays m img pc fcx pcxi (lists_said e)
-  lists_verdict_lem r (Ok tt) c = (r, sound_of m (windows_small m r.windows) fcx pcxi c)
+  lists_verdict_lem r (Ok _) c = (r, sound_of m (windows_small m r.windows) fcx pcxi c)
   lists_verdict_lem r (Err LinkOutside) c = (r, c)
   lists_verdict_lem r (Err MetAgain) c = (r, c)
 
@@ -115,7 +115,7 @@ module _ (m : Memory) (img : List ℕ) (pc fcx pcxi : ℕ) where
 
   -- ---- and no other verdict is
   start_is : (v : Result ⊤ Refusal) → StartSays m img pc fcx pcxi v → start_verdict m img pc fcx pcxi ≡ v
-  start_is (Ok tt) (r, s) = lists_end r (Ok tt) (of_sound m (windows_small m r.windows) fcx pcxi s)
+  start_is (Ok _) (r, s) = lists_end r (Ok tt) (of_sound m (windows_small m r.windows) fcx pcxi s)
   start_is (Err Window) d = start_refused Window (step_is m img pc (Err Window) d)
   start_is (Err Overlap) s = start_refused Overlap (step_is m img pc (Err Overlap) s)
   start_is (Err (Table entry)) s = start_refused (Table entry) (step_is m img pc (Err (Table entry)) s)
@@ -129,6 +129,6 @@ module _ (m : Memory) (img : List ℕ) (pc fcx pcxi : ℕ) where
 
 -- an image that is accepted is told of
 pub accepted_long : (img : List ℕ) (x : Result ⊤ ImageFault) (long : Bool) → long ≡ long_in img x → image_said x ≡ (Ok tt) → long ≡ long_only img
-accepted_long img (Ok tt) long e h = e
+accepted_long img (Ok _) long e h = e
 accepted_long img (Err (Table p)) long e h = absurd (let z : ◌≡◌ {A = ℕ} 0 1 = cc in omega arith)
 accepted_long img (Err (Record k)) long e h = absurd (let z : ◌≡◌ {A = ℕ} 0 1 = cc in omega arith)

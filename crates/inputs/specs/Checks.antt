@@ -12,7 +12,7 @@ use Rattle.lists.specs.declared.ListFault.{ListFault}
 
 -- the first rule at fault
 abbrev pub and_then : Result ⊤ Refusal → Result ⊤ Refusal → Result ⊤ Refusal
-and_then (Ok tt) v = v
+and_then (Ok _) v = v
 and_then (Err r) v = Err r
 
 -- 1: base and length are multiples of 64, the length is 1 to 65,536, and the window lies within one segment below E
@@ -43,7 +43,7 @@ window_verdict m =
 
 -- 2 and 3
 abbrev pub image_said : Result ⊤ ImageFault → Result ⊤ Refusal
-image_said (Ok tt) = Ok tt
+image_said (Ok _) = Ok tt
 image_said (Err (Table entry)) = Err (Table entry)
 image_said (Err (Record index)) = Err (Record index)
 
@@ -56,7 +56,7 @@ pc_verdict pc = cond (eqb (pc % 2) 0) (Ok tt) (Err OddPc)
 
 -- 5 and 6, of windows that rules 1 and 13 accept
 abbrev pub lists_said : Result ⊤ ListFault → Result ⊤ Refusal
-lists_said (Ok tt) = Ok tt
+lists_said (Ok _) = Ok tt
 lists_said (Err LinkOutside) = Err LinkOutside
 lists_said (Err MetAgain) = Err MetAgain
 
@@ -73,5 +73,5 @@ start_verdict m img pc fcx pcxi = and_then (step_verdict m img pc) (lists_said (
 
 -- whether an image has no short form is told where the input is accepted
 abbrev pub long_told : List ℕ → Result ⊤ Refusal → Bool
-long_told img (Ok tt) = long_only img
+long_told img (Ok _) = long_only img
 long_told img (Err r) = false

@@ -55,7 +55,7 @@ pub record StepRight (m : Memory) (img : List ℕ) (pc : ℕ) : Type 0 where
 
 -- what a verdict says of rules 1 and 13
 abbrev pub WindowsSay : Memory → Result ⊤ Refusal → Type 0
-WindowsSay m (Ok tt) = WindowsHold m
+WindowsSay m (Ok _) = WindowsHold m
 WindowsSay m (Err Window) = RightOf m → ⊥
 WindowsSay m (Err Overlap) = RightOf m × (ApartOf m → ⊥)
 WindowsSay m (Err (Table entry)) = ⊥
@@ -66,7 +66,7 @@ WindowsSay m (Err MetAgain) = ⊥
 
 -- of rules 2 and 3
 abbrev pub ContentsSay : List ℕ → Result ⊤ Refusal → Type 0
-ContentsSay img (Ok tt) = ImageRight img
+ContentsSay img (Ok _) = ImageRight img
 ContentsSay img (Err Window) = ⊥
 ContentsSay img (Err Overlap) = ⊥
 ContentsSay img (Err (Table entry)) = TableFault img entry
@@ -77,7 +77,7 @@ ContentsSay img (Err MetAgain) = ⊥
 
 -- of rule 4
 abbrev pub PcSays : ℕ → Result ⊤ Refusal → Type 0
-PcSays pc (Ok tt) = Even pc
+PcSays pc (Ok _) = Even pc
 PcSays pc (Err Window) = ⊥
 PcSays pc (Err Overlap) = ⊥
 PcSays pc (Err (Table entry)) = ⊥
@@ -88,7 +88,7 @@ PcSays pc (Err MetAgain) = ⊥
 
 -- of rules 5 and 6, of windows that rules 1 and 13 accept
 abbrev pub ListsSay : Memory → ℕ → ℕ → Result ⊤ Refusal → Type 0
-ListsSay m fcx pcxi (Ok tt) = WindowsHold m × Sound m fcx pcxi
+ListsSay m fcx pcxi (Ok _) = WindowsHold m × Sound m fcx pcxi
 ListsSay m fcx pcxi (Err Window) = RightOf m → ⊥
 ListsSay m fcx pcxi (Err Overlap) = RightOf m × (ApartOf m → ⊥)
 ListsSay m fcx pcxi (Err (Table entry)) = ⊥
@@ -99,7 +99,7 @@ ListsSay m fcx pcxi (Err MetAgain) = WindowsHold m × ListsCome m fcx pcxi (Err 
 
 -- of rules 1, 13 and 2 to 4, in their order
 abbrev pub StepSays : Memory → List ℕ → ℕ → Result ⊤ Refusal → Type 0
-StepSays m img pc (Ok tt) = StepRight m img pc
+StepSays m img pc (Ok _) = StepRight m img pc
 StepSays m img pc (Err Window) = RightOf m → ⊥
 StepSays m img pc (Err Overlap) = RightOf m × (ApartOf m → ⊥)
 StepSays m img pc (Err (Table entry)) = WindowsHold m × TableFault img entry
@@ -110,7 +110,7 @@ StepSays m img pc (Err MetAgain) = ⊥
 
 -- and of all seven
 abbrev pub StartSays : Memory → List ℕ → ℕ → ℕ → ℕ → Result ⊤ Refusal → Type 0
-StartSays m img pc fcx pcxi (Ok tt) = StepRight m img pc × Sound m fcx pcxi
+StartSays m img pc fcx pcxi (Ok _) = StepRight m img pc × Sound m fcx pcxi
 StartSays m img pc fcx pcxi (Err Window) = RightOf m → ⊥
 StartSays m img pc fcx pcxi (Err Overlap) = RightOf m × (ApartOf m → ⊥)
 StartSays m img pc fcx pcxi (Err (Table entry)) = WindowsHold m × TableFault img entry

@@ -12,7 +12,7 @@ use Rattle.image.specs.declared.table.ImageFault.TheVariants.{Record, Table}
 
 -- 0 for accepted; else the rule's number, with its place in the high word
 abbrev pub verdict_of : Result ⊤ Refusal → ℕ
-verdict_of (Ok tt) = 0
+verdict_of (Ok _) = 0
 verdict_of (Err r) = fault_of r * 2 ^ 32 + number_of r
 
 -- of a record at pc how many addresses it covers, c, a, b from the lowest byte on, and the immediate in the high word
@@ -35,7 +35,7 @@ pub record FetchTold (img : List ℕ) (pc n : ℕ) : Type 0 where
   pub refused : (ImageRight img → ⊥) → n ≡ 0
 
 abbrev pub fetched_by : Result ⊤ ImageFault → List ℕ → ℕ → ℕ
-fetched_by (Ok tt) img pc = fetched_of img pc
+fetched_by (Ok _) img pc = fetched_of img pc
 fetched_by (Err (Table entry)) img pc = 0
 fetched_by (Err (Record index)) img pc = 0
 

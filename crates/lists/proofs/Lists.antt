@@ -69,8 +69,8 @@ module _ (m : Memory) (small : length m.bytes ≤ 131072) (met : List Bool) (c :
 
 -- ---- what a walk comes to, by counts
 why_at : Memory → (Link → ℕ) → Link → Result ⊤ ListFault → Type 0
-why_at m c r (Ok tt) = r.0 ≡ 0
-why_at m c r (Err LinkNone) = (r.0 ≡ 0 → ⊥) × (place_of m r ≡ None)
+why_at m c r (Ok _) = r.0 ≡ 0
+why_at m c r (Err LinkOutside) = (r.0 ≡ 0 → ⊥) × (place_of m r ≡ None)
 why_at m c r (Err MetAgain) = (r.0 ≡ 0 → ⊥) × (at : ℕ) × (place_of m r ≡ Some at) × (1 ≤ c r)
 
 record Goes (m : Memory) (c : Link → ℕ) (l : Link) (w : Walked) : Type 0 where
@@ -83,8 +83,8 @@ record Goes (m : Memory) (c : Link → ℕ) (l : Link) (w : Walked) : Type 0 whe
 
 why_same : (m : Memory) {c d : Link → ℕ} (r : Link) (e : Result ⊤ ListFault) → ((l : Link) → c l ≡ d l) → why_at m c r e → why_at m d r e
 unfolding why_at
-why_same m r (Ok tt) h w = w
-why_same m r (Err LinkNone) h w = w
+why_same m r (Ok _) h w = w
+why_same m r (Err LinkOutside) h w = w
 why_same m r (Err MetAgain) h (z, at, p, k) = (z, at, p, rw (← h r) k)
 
 -- one more link in front
@@ -119,7 +119,7 @@ goes (suc n) m c l met small b o g u = go (turn m l met) (goes n m)
         → ((d : Link → ℕ) (k : Link) (s : List Bool) → length m.bytes ≤ 131072 → k.0 < 2 ^ 20 → ((x : Link) → d x ≤ 1) → Marked m s d → unmet s < n → Goes m d k (list_walk n m k s))
         → Goes m c l (list_walk (suc n) m l met)
     go (ends e) r = rw (walk_whole n m l met e) (goes_here m c l met (Ok tt) o g e)
-    go (outside z p) r = rw (walk_outside n m l met z p) (goes_here m c l met (Err LinkNone) o g (z, p))
+    go (outside z p) r = rw (walk_outside n m l met z p) (goes_here m c l met (Err LinkOutside) o g (z, p))
     go (again at z p t) r = rw (walk_again n m l met z at p t) (goes_here m c l met (Err MetAgain) o g (z, at, p, omega (arith, g.yes_met l at b p t)))
     go (onward at z p t) r =
         rw (walk_on n m l met z at p t)
@@ -135,14 +135,14 @@ goes (suc n) m c l met small b o g u = go (turn m l met) (goes n m)
 -- ---- in the words of specs/Lists.antt
 why_of : (m : Memory) (before met : List Link) (r : Link) (e : Result ⊤ ListFault) → why_at m (λ k. count k before + count k met) r e → Why m before met r e
 unfolding why_at
-why_of m before met r (Ok tt) w = w
-why_of m before met r (Err LinkNone) w = w
+why_of m before met r (Ok _) w = w
+why_of m before met r (Err LinkOutside) w = w
 why_of m before met r (Err MetAgain) w = w
 
 of_why : (m : Memory) (before met : List Link) (r : Link) (e : Result ⊤ ListFault) → Why m before met r e → why_at m (λ k. count k before + count k met) r e
 unfolding why_at
-of_why m before met r (Ok tt) w = w
-of_why m before met r (Err LinkNone) w = w
+of_why m before met r (Ok _) w = w
+of_why m before met r (Err LinkOutside) w = w
 of_why m before met r (Err MetAgain) w = w
 
 comes_of : (m : Memory) (before : List Link) (l : Link) (w : Walked) (e : Result ⊤ ListFault) → w.end ≡ e → Goes m (λ k. count k before) l w → Comes m before l e
@@ -153,8 +153,8 @@ comes_of m before l w e q g =
 -- a link at which a walk ends is not one that a walk goes on from
 stuck : (m : Memory) (c : Link → ℕ) (r : Link) (e : Result ⊤ ListFault) (at : ℕ) → why_at m c r e → (r.0 ≡ 0 → ⊥) → place_of m r ≡ Some at → c r ≡ 0 → ⊥
 unfolding why_at
-stuck m c r (Ok tt) at w z p n = z w
-stuck m c r (Err LinkNone) at w z p n = never_at (sym w.1 ∙ p)
+stuck m c r (Ok _) at w z p n = z w
+stuck m c r (Err LinkOutside) at w z p n = never_at (sym w.1 ∙ p)
 stuck m c r (Err MetAgain) at (y, bt, q, k) z p n = omega arith
 
 -- the same links lead to the same end
@@ -182,14 +182,14 @@ unique m c l (j ∷ js) (k ∷ ks) r s e f (h, z, at, i, t) (h', z', bt, i', t')
 
 ends_alike : (m : Memory) (c d : Link → ℕ) (r : Link) (e f : Result ⊤ ListFault) → ((k : Link) → c k ≡ d k) → why_at m c r e → why_at m d r f → e ≡ f
 unfolding why_at
-ends_alike m c d r (Ok tt) (Ok tt) h x y = refl
-ends_alike m c d r (Ok tt) (Err LinkNone) h x y = absurd (y.0 x)
-ends_alike m c d r (Ok tt) (Err MetAgain) h x y = absurd (y.0 x)
-ends_alike m c d r (Err LinkNone) (Ok tt) h x y = absurd (x.0 y)
-ends_alike m c d r (Err LinkNone) (Err LinkNone) h x y = refl
-ends_alike m c d r (Err LinkNone) (Err MetAgain) h x (z, at, p, k) = absurd (never_at (sym x.1 ∙ p))
-ends_alike m c d r (Err MetAgain) (Ok tt) h x y = absurd (x.0 y)
-ends_alike m c d r (Err MetAgain) (Err LinkNone) h (z, at, p, k) y = absurd (never_at (sym y.1 ∙ p))
+ends_alike m c d r (Ok _) (Ok _) h x y = refl
+ends_alike m c d r (Ok _) (Err LinkOutside) h x y = absurd (y.0 x)
+ends_alike m c d r (Ok _) (Err MetAgain) h x y = absurd (y.0 x)
+ends_alike m c d r (Err LinkOutside) (Ok _) h x y = absurd (x.0 y)
+ends_alike m c d r (Err LinkOutside) (Err LinkOutside) h x y = refl
+ends_alike m c d r (Err LinkOutside) (Err MetAgain) h x (z, at, p, k) = absurd (never_at (sym x.1 ∙ p))
+ends_alike m c d r (Err MetAgain) (Ok _) h x y = absurd (x.0 y)
+ends_alike m c d r (Err MetAgain) (Err LinkOutside) h (z, at, p, k) y = absurd (never_at (sym y.1 ∙ p))
 ends_alike m c d r (Err MetAgain) (Err MetAgain) h x y = refl
 
 -- two accounts of a list agree
@@ -229,7 +229,7 @@ module _ (m : Memory) (small : length m.bytes ≤ 131072) (fcx pcxi : ℕ) where
       at_used (comes_of m [] (link_of fcx) free_walk (Ok tt) q g)
       (comes_of m g.met (link_of pcxi) (list_walk 2049 m (link_of pcxi) free_walk.met) (then_used m pcxi (Ok tt) free_walk.met) refl
       (used_goes g.met (λ k. omega (arith, g.first k)) (marked_same (λ k. omega arith) g.marks)))
-  lists_by (Err LinkNone) q g = at_free (λ z. (let n : ◌≡◌ {A = ℕ} 0 1 = cc in omega arith)) (comes_of m [] (link_of fcx) free_walk (Err LinkNone) q g)
+  lists_by (Err LinkOutside) q g = at_free (λ z. (let n : ◌≡◌ {A = ℕ} 0 1 = cc in omega arith)) (comes_of m [] (link_of fcx) free_walk (Err LinkOutside) q g)
   lists_by (Err MetAgain) q g = at_free (λ z. (let n : ◌≡◌ {A = ℕ} 0 1 = cc in omega arith)) (comes_of m [] (link_of fcx) free_walk (Err MetAgain) q g)
 
   -- the check's answer is what the lists come to

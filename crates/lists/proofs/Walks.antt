@@ -25,7 +25,7 @@ module _ (n : ℕ) (m : Memory) (l : Link) (met : List Bool) where
   walk_whole h = simp (eq-eqb _ _ h)
 
   module _ (z : l.0 ≡ 0 → ⊥) where
-    pub walk_outside : place_of m l ≡ None → list_walk (suc n) m l met ≡ walked (Err LinkNone) met
+    pub walk_outside : place_of m l ≡ None → list_walk (suc n) m l met ≡ walked (Err LinkOutside) met
     unfolding list_walk
     walk_outside e = simp (ne_eqb _ _ z, e)
 

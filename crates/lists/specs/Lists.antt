@@ -32,8 +32,8 @@ pub record Sound (m : Memory) (fcx pcxi : ℕ) : Type 0 where
 
 -- why a walk ends at the link r, after the links of `before` and `met`
 abbrev pub Why : Memory → List Link → List Link → Link → Result ⊤ ListFault → Type 0
-Why m before met r (Ok tt) = r.0 ≡ 0
-Why m before met r (Err LinkNone) = (r.0 ≡ 0 → ⊥) × (place_of m r ≡ None)
+Why m before met r (Ok _) = r.0 ≡ 0
+Why m before met r (Err LinkOutside) = (r.0 ≡ 0 → ⊥) × (place_of m r ≡ None)
 Why m before met r (Err MetAgain) = (r.0 ≡ 0 → ⊥) × (at : ℕ) × (place_of m r ≡ Some at) × (1 ≤ count r before + count r met)
 
 -- what the list from the link l comes to, with the areas of `before` met already: all areas up to there are met for the first time, so this is the first link at fault

@@ -18,7 +18,7 @@ walked e met = record { end = e; met = met }
 
 -- the link's area: 5 is tried before 6, and `on` goes on from the next link
 abbrev pub walk_at : Memory → List Bool → (Link → List Bool → Walked) → Option ℕ → Walked
-walk_at m met on None = walked (Err LinkNone) met
+walk_at m met on None = walked (Err LinkOutside) met
 walk_at m met on (Some at) =
     cond (get_or met (at / 64) false) (walked (Err MetAgain) met) (on (link_of (word_at m.bytes at)) (set met (at / 64) true))
 
@@ -29,9 +29,8 @@ list_walk (suc n) m l met = cond (eqb l.0 0) (walked (Ok tt) met) (walk_at m met
 
 -- the used list is followed only where the free one is whole
 abbrev pub then_used : Memory → ℕ → Result ⊤ ListFault → List Bool → Result ⊤ ListFault
-then_used m pcxi (Ok tt) met = (list_walk 2049 m (link_of pcxi) met).end
-then_used m pcxi (Err LinkNone) met = Err LinkNone
-then_used m pcxi (Err MetAgain) met = Err MetAgain
+then_used m pcxi (Ok _) met = (list_walk 2049 m (link_of pcxi) met).end
+then_used m pcxi (Err fault) met = Err fault
 
 -- first the free list, from FCX, then the used one, from PCXI, with the areas that the free one met
 unfoldable pub lists_of : Memory → ℕ → ℕ → Result ⊤ ListFault

@@ -9,15 +9,13 @@ ghost use Rattle.lists.specs.Lists.{ListsCome};
 ghost use Rattle.words.specs.Exactly.{Exactly};
 
 use areas::area::next_link;
-use areas::link::{Place, locate};
+use areas::link::locate;
 use fields::link::{Link, link_of};
 use memory::address::Address;
 
-// What a list comes to.
+// What a list can be refused for. One without a fault ends in link 0.
 #[derive(Clone, Copy)]
-pub enum ListEnd {
-    // link 0 ends it
-    Whole,
+pub enum ListFault {
     // a link lies in neither window: 5
     LinkOutside,
     // an area is met a second time: 6
@@ -64,10 +62,6 @@ pub fn check<'a>(
     ensures { (result ≡ lists_of (lent base window.now base2 window2.now) fcx pcxi) × Exactly (ListsCome (lent base window.now base2 window2.now) fcx pcxi) result }
 {
     let mut met = [false; 2048];
-    let free = walk(base, window, base2, window2, link_of(fcx), &mut met);
-    match free {
-        Ok(()) => walk(base, window, base2, window2, link_of(pcxi), &mut met),
-        Err(ListFault::LinkOutside) => free,
-        Err(ListFault::MetAgain) => free,
-    }
+    walk(base, window, base2, window2, link_of(fcx), &mut met)?;
+    walk(base, window, base2, window2, link_of(pcxi), &mut met)
 }

@@ -73,7 +73,7 @@ module _ (img : List ℕ) (r : Registers) (xs : List ℕ) (rs : List Range) (m :
     where
       by : (v : Result ⊤ Refusal) → verdict_in (stepped_by img r xs rs m v).outcome ≡ v
       by (Err x) = refl
-      by (Ok tt) = let v = one_of img r xs rs m in accepted_verdict _ _ v.ending v.registers v.memory
+      by (Ok _) = let v = one_of img r xs rs m in accepted_verdict _ _ v.ending v.registers v.memory
 
   pub step_told : {o : Outcome} {q : Registers} {ys : List ℕ} {n : Memory} {p : Permits} → stepped o q ys n p ≡ step_of img r xs rs m → Exactly (StepSays m img (pc r)) (verdict_in o)
   step_told {o} e = (step_exactly m img (pc r) (verdict_in o) (ap (λ (s : StepOf). verdict_in s.outcome) e ∙ step_verdict_lem)).1

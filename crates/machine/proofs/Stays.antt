@@ -65,7 +65,7 @@ module _ {img : List ℕ} (image : Bytes img) (rs : List Range) where
   run_bounds n {r} {m} h xs = by (step_verdict m img (pc r))
     where
       by : (v : Result ⊤ Refusal) → (let w = run_by n img r xs rs m v in InBounds w.registers w.memory)
-      by (Ok tt) = from_bounds n (Made event.Instruction) 0 h xs
+      by (Ok _) = from_bounds n (Made event.Instruction) 0 h xs
       by (Err x) = h
 
   -- ---- no refusal after an accepted start

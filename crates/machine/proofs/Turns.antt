@@ -84,7 +84,7 @@ never : {x : Refusal} → Err x ≡ (Ok tt) → ⊥
 never e = let z : ◌≡◌ {A = ℕ} 0 1 = cc in omega arith
 
 by_image : (c : Result ⊤ ImageFault) (v : Result ⊤ Refusal) → and_then (image_said c) v ≡ (Ok tt) → c ≡ (Ok tt)
-by_image (Ok tt) v e = refl
+by_image (Ok _) v e = refl
 by_image (Err (Table p)) v e = absurd (never e)
 by_image (Err (Record k)) v e = absurd (never e)
 
@@ -93,7 +93,7 @@ unfolding step_verdict
 image_holds m img p e = by_window (window_verdict m) e
   where
     by_window : (v : Result ⊤ Refusal) → and_then v (and_then (image_verdict img) (pc_verdict p)) ≡ (Ok tt) → ImageHolds img
-    by_window (Ok tt) e = by_image (image_of img) (pc_verdict p) e
+    by_window (Ok _) e = by_image (image_of img) (pc_verdict p) e
     by_window (Err x) e = absurd (never e)
 
 -- an accepted start has an even PC

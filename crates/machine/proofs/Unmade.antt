@@ -50,7 +50,7 @@ module _ (img : List ℕ) (r : Registers) (xs : List ℕ) (rs : List Range) (m :
   by_ending ys p (Err s) q w = record { registers = refl; requests = refl; memory = refl }
 
   by_verdict : (v : Result ⊤ Refusal) → (let s = stepped_by img r xs rs m v in Unmoved s.outcome s)
-  by_verdict (Ok tt) = let v = one_of img r xs rs m in by_ending _ _ v.ending v.registers v.memory
+  by_verdict (Ok _) = let v = one_of img r xs rs m in by_ending _ _ v.ending v.registers v.memory
   by_verdict (Err x) = record { registers = refl; requests = refl; memory = refl }
 
   pub unmoved : (let s = step_of img r xs rs m in Unmoved s.outcome s)
@@ -72,5 +72,5 @@ module _ (img : List ℕ) (r : Registers) (xs : List ℕ) (rs : List Range) (m :
   none_made n = by (step_verdict m img (pc r))
     where
       by : (v : Result ⊤ Refusal) → (run_by n img r xs rs m v).made ≡ 0 → Leaves r xs m (run_by n img r xs rs m v)
-      by (Ok tt) z = from n z
+      by (Ok _) z = from n z
       by (Err x) z = record { registers = refl; requests = refl; memory = refl }

@@ -37,7 +37,7 @@ run_from (suc n) img rs last made r xs m =
 
 abbrev pub run_by : ℕ → List ℕ → Registers → List ℕ → List Range → Memory → Result ⊤ Refusal → RunOf
 run_by n img r xs rs m (Err x) = ran (Refused x) 0 r xs m
-run_by n img r xs rs m (Ok tt) = run_from n img rs (Made event.Instruction) 0 r xs m
+run_by n img r xs rs m (Ok _) = run_from n img rs (Made event.Instruction) 0 r xs m
 
 -- a run that is refused makes no step and leaves registers, requests and memory as they were
 abbrev pub RefusedKeeps : Registers → List ℕ → Memory → RunOf → Type 0

@@ -47,7 +47,7 @@ accepted_of img r xs rs m =
 
 abbrev pub stepped_by : List ℕ → Registers → List ℕ → List Range → Memory → Result ⊤ Refusal → StepOf
 stepped_by img r xs rs m (Err x) = stepped (Refused x) r xs m no_permits
-stepped_by img r xs rs m (Ok tt) = accepted_of img r xs rs m
+stepped_by img r xs rs m (Ok _) = accepted_of img r xs rs m
 
 -- img is the image, xs the request words of the 16 sources, rs the 32 ranges
 unfoldable pub step_of : List ℕ → Registers → List ℕ → List Range → Memory → StepOf

@@ -3,7 +3,6 @@
 ghost use Rattle.std.specs.Prelude.{◌≡◌, true};
 ghost use Rattle.memory.specs.Memory.{lent};
 ghost use Rattle.registers.specs.Registers.{registers};
-ghost use Rattle.protection.specs.Range.{ranges_in};
 ghost use Rattle.image.specs.Marks.{long_only};
 ghost use Rattle.machine.specs.Step.{outcome_of};
 ghost use Rattle.machine.specs.Run.{ran, run_from};
@@ -28,11 +27,11 @@ fn run_marked(
     image: &[u8],
     registers: &mut Registers,
     requests: &mut [u32; 16],
-    words: &[u32; 96],
+    ranges: &[Range; 32],
     n: u32,
 ) -> Went
     requires { Ready image.now registers.old (lent base window.old base2 window2.old) }
-    ensures { ran (outcome_of result.ending) result.made registers.new requests.new (lent base window.new base2 window2.new) ≡ run_from n image.now (ranges_in words.now) (outcome.Made event.Instruction) 0 registers.old requests.old (lent base window.old base2 window2.old) }
+    ensures { ran (outcome_of result.ending) result.made registers.new requests.new (lent base window.new base2 window2.new) ≡ run_from n image.now ranges.now (outcome.Made event.Instruction) 0 registers.old requests.old (lent base window.old base2 window2.old) }
 {
     let mut marks = [0; 4096];
     let shift = mark_image(image, &mut marks);
@@ -49,7 +48,7 @@ fn run_marked(
         &marks,
         registers,
         requests,
-        words,
+        ranges,
         n,
     )
 }
@@ -64,17 +63,17 @@ pub fn run_guided(
     long: bool,
     registers: &mut Registers,
     requests: &mut [u32; 16],
-    words: &[u32; 96],
+    ranges: &[Range; 32],
     n: u32,
 ) -> Went
     requires ready { Ready image.now registers.old (lent base window.old base2 window2.old) }
     requires all_long { long ≡ true → long_only image.now ≡ true }
-    ensures { ran (outcome_of result.ending) result.made registers.new requests.new (lent base window.new base2 window2.new) ≡ run_from n image.now (ranges_in words.now) (outcome.Made event.Instruction) 0 registers.old requests.old (lent base window.old base2 window2.old) }
+    ensures { ran (outcome_of result.ending) result.made registers.new requests.new (lent base window.new base2 window2.new) ≡ run_from n image.now ranges.now (outcome.Made event.Instruction) 0 registers.old requests.old (lent base window.old base2 window2.old) }
 {
     if !long {
         if MARKED <= n {
             return run_marked(
-                base, window, base2, window2, image, registers, requests, words, n,
+                base, window, base2, window2, image, registers, requests, ranges, n,
             );
         }
     }
@@ -92,7 +91,7 @@ pub fn run_guided(
         &none,
         registers,
         requests,
-        words,
+        ranges,
         n,
     )
 }

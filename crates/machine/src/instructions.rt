@@ -3,7 +3,6 @@
 ghost use Rattle.std.specs.Prelude.{◌≡◌, ◌<◌};
 ghost use Rattle.memory.specs.Memory.{lent};
 ghost use Rattle.registers.specs.Registers.{registers};
-ghost use Rattle.protection.specs.Range.{ranges_in};
 ghost use Rattle.machine.specs.Inner.{Ready, paced_after, Paces};
 ghost use Rattle.image.specs.Marks.{Guides};
 ghost use Rattle.spans.specs.Spans.{LiesAhead};
@@ -35,15 +34,15 @@ fn steady_steps(
     guide: Guide,
     marks: &[u64],
     registers: &mut Registers,
-    words: &[u32; 96],
+    ranges: &[Range; 32],
     s: Span,
     n: u32,
 ) -> Paced
     requires ready { Ready image.now registers.old (lent base window.old base2 window2.old) }
     requires guides { Guides image.now guide marks.now }
-    requires lies_ahead { LiesAhead image.now guide.long registers.old.core (ranges_in words.now) (Ahead.Records s) }
+    requires lies_ahead { LiesAhead image.now guide.long registers.old.core ranges.now (Ahead.Records s) }
     requires n_nonzero { 0 < n }
-    ensures { Paces n image.now (ranges_in words.now) registers.old (lent base window.old base2 window2.old) result registers.new (lent base window.new base2 window2.new) }
+    ensures { Paces n image.now ranges.now registers.old (lent base window.old base2 window2.old) result registers.new (lent base window.new base2 window2.new) }
 {
     let mut at = s.at;
     let mut left = n;
@@ -52,7 +51,7 @@ fn steady_steps(
     let mut after = next;
     loop {
         let i = read_record(image, at + 8 * k as usize, next);
-        let done = execute_instruction(base, window, base2, window2, registers, words, i);
+        let done = execute_instruction(base, window, base2, window2, registers, ranges, i);
         let ending = ending_of(done);
         let Ok(_) = ending else {
             return Paced {
@@ -119,21 +118,21 @@ pub fn instructions(
     guide: Guide,
     marks: &[u64],
     registers: &mut Registers,
-    words: &[u32; 96],
+    ranges: &[Range; 32],
     n: u32,
 ) -> Paced
     requires ready { Ready image.now registers.old (lent base window.old base2 window2.old) }
     requires guides { Guides image.now guide marks.now }
     requires n_nonzero { 0 < n }
-    ensures { Paces n image.now (ranges_in words.now) registers.old (lent base window.old base2 window2.old) result registers.new (lent base window.new base2 window2.new) }
+    ensures { Paces n image.now ranges.now registers.old (lent base window.old base2 window2.old) result registers.new (lent base window.new base2 window2.new) }
 {
-    match look_ahead(image, guide, marks, &registers.core, words) {
+    match look_ahead(image, guide, marks, &registers.core, ranges) {
         Err(t) => {
             let pc = registers.core[PC];
             after_one(trap(base, window, base2, window2, registers, t, pc), n)
         }
         Ok(s) => steady_steps(
-            base, window, base2, window2, image, guide, marks, registers, words, s, n,
+            base, window, base2, window2, image, guide, marks, registers, ranges, s, n,
         ),
     }
 }

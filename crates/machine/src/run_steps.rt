@@ -3,7 +3,6 @@
 ghost use Rattle.std.specs.Prelude.{◌≡◌};
 ghost use Rattle.memory.specs.Memory.{lent};
 ghost use Rattle.registers.specs.Registers.{registers};
-ghost use Rattle.protection.specs.Range.{ranges_in};
 ghost use Rattle.machine.specs.Step.{outcome_of};
 ghost use Rattle.machine.specs.Run.{ran, run_from};
 ghost use Rattle.machine.specs.Inner.{foremost_of, Ready};
@@ -52,12 +51,12 @@ fn run_by_reference(
     marks: &[u64],
     registers: &mut Registers,
     requests: &mut [u32; 16],
-    words: &[u32; 96],
+    ranges: &[Range; 32],
     n: u32,
 ) -> Went
     requires ready { Ready image.now registers.old (lent base window.old base2 window2.old) }
     requires guides { Guides image.now guide marks.now }
-    ensures { ran (outcome_of result.ending) result.made registers.new requests.new (lent base window.new base2 window2.new) ≡ run_from n image.now (ranges_in words.now) (outcome.Made event.Instruction) 0 registers.old requests.old (lent base window.old base2 window2.old) }
+    ensures { ran (outcome_of result.ending) result.made registers.new requests.new (lent base window.new base2 window2.new) ≡ run_from n image.now ranges.now (outcome.Made event.Instruction) 0 registers.old requests.old (lent base window.old base2 window2.old) }
 {
     let mut best = first_source(requests, registers.core[ICR], n);
     let mut last = Event::Instruction;
@@ -86,7 +85,7 @@ fn run_by_reference(
             continue;
         }
         let p = instructions(
-            base, window, base2, window2, image, guide, marks, registers, words, left,
+            base, window, base2, window2, image, guide, marks, registers, ranges, left,
         );
         let ending = p.ending;
         let Ok(e) = ending else {
@@ -115,12 +114,12 @@ pub fn run_steps(
     marks: &[u64],
     registers: &mut Registers,
     requests: &mut [u32; 16],
-    words: &[u32; 96],
+    ranges: &[Range; 32],
     n: u32,
 ) -> Went
     requires ready { Ready image.now registers.old (lent base window.old base2 window2.old) }
     requires guides { Guides image.now guide marks.now }
-    ensures { ran (outcome_of result.ending) result.made registers.new requests.new (lent base window.new base2 window2.new) ≡ run_from n image.now (ranges_in words.now) (outcome.Made event.Instruction) 0 registers.old requests.old (lent base window.old base2 window2.old) }
+    ensures { ran (outcome_of result.ending) result.made registers.new requests.new (lent base window.new base2 window2.new) ≡ run_from n image.now ranges.now (outcome.Made event.Instruction) 0 registers.old requests.old (lent base window.old base2 window2.old) }
 {
     let mut own_d = *d;
     let mut own_a = *a;
@@ -137,7 +136,7 @@ pub fn run_steps(
         &mut own_a,
         &mut own_core,
         requests,
-        words,
+        ranges,
         n,
     );
     *d = own_d;

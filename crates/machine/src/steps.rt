@@ -37,13 +37,12 @@ fn step_accepted(
     requires all_long { long ≡ true → long_only image.now ≡ true }
     ensures { stepped result.outcome result.registers result.requests (lent base window.new base2 window2.new) result.permits ≡ step_of image.now registers requests ranges (lent base window.old base2 window2.old) }
 {
-    let words = flat(ranges);
     let mut d = registers.d;
     let mut a = registers.a;
     let mut core = registers.core;
     let mut xs = requests;
     let none = [0; 1];
-    let p = permits_of(image, long, &a, &core, &xs, &words);
+    let p = permits_of(image, long, &a, &core, &xs, &ranges);
     let w = run_steps(
         base,
         window,
@@ -59,7 +58,7 @@ fn step_accepted(
         &mut a,
         &mut core,
         &mut xs,
-        &words,
+        &ranges,
         1,
     );
     let ending = w.ending;
@@ -135,14 +134,13 @@ pub fn run(
             made: 0,
         },
         Ok(()) => {
-            let words = flat(ranges);
             let mut d = registers.d;
             let mut a = registers.a;
             let mut core = registers.core;
             let mut xs = requests;
             let w = run_guided(
                 base, window, base2, window2, image, tried.long, &mut d, &mut a, &mut core,
-                &mut xs, &words, n,
+                &mut xs, &ranges, n,
             );
             let ending = w.ending;
             Ran {

@@ -116,8 +116,8 @@ module _ (core : List ℕ) (rs : List Range) where
 
       asks_fetch : (c : Result ⊤ Trap) (f : Option Instruction) → fetch_asked (get_or core 0 0) (check_begins c f) ≡ access right.Execute (as_address (get_or core 0 0))
       asks_fetch (Err t) f = refl
-      asks_fetch (Ok tt) None = refl
-      asks_fetch (Ok tt) (Some i) = refl
+      asks_fetch (Ok _) None = refl
+      asks_fetch (Ok _) (Some i) = refl
 
       fetch_asked_lem : fetch_asked (get_or core 0 0) (fetching_at img core rs (get_or core 0 0)) ≡ access right.Execute (as_address (get_or core 0 0))
       unfolding fetching_at

@@ -4,7 +4,6 @@
 
 ghost use Rattle.std.specs.Prelude.{◌≡◌, true, ◌+◌, ◌≤◌, length, get_or};
 ghost use Rattle.words.specs.Exactly.{Exactly};
-ghost use Rattle.protection.specs.Range.{ranges_in};
 ghost use Rattle.image.specs.Records.{ImageHolds};
 ghost use Rattle.image.specs.Rest.{rest_of};
 ghost use Rattle.image.specs.Marks.{long_only};
@@ -34,12 +33,12 @@ fn permit_record(
     image: &[u8],
     a: &[u32; 16],
     core: &[u32; CORE],
-    words: &[u32; 96],
+    ranges: &[Range; 32],
     at: usize,
     pc: u32,
 ) -> Option<usize>
     requires { (at + 8 ≤ length image.now) × FieldsHold (instruction_at image.now at pc) }
-    ensures { result ≡ permit_asked core.now (ranges_in words.now) (data_in (instruction_at image.now at pc) a.now) }
+    ensures { result ≡ permit_asked core.now ranges.now (data_in (instruction_at image.now at pc) a.now) }
 {
     let o = read_operand(image, at);
     let x = o.a;
@@ -47,8 +46,8 @@ fn permit_record(
     let how = o.access;
     match how {
         Access::Nothing => None,
-        Access::Read => permit_for(core, words, Right::Read, address),
-        Access::Write => permit_for(core, words, Right::Write, address),
+        Access::Read => permit_for(core, ranges, Right::Read, address),
+        Access::Write => permit_for(core, ranges, Right::Write, address),
     }
 }
 
@@ -70,20 +69,20 @@ fn permit_data(
     long: bool,
     a: &[u32; 16],
     core: &[u32; CORE],
-    words: &[u32; 96],
+    ranges: &[Range; 32],
 ) -> Option<usize>
     requires { ImageHolds image.now × (long ≡ true → long_only image.now ≡ true) }
-    ensures { result ≡ permit_asked core.now (ranges_in words.now) (data_asked a.now (fetching_at image.now core.now (ranges_in words.now) (get_or core.now PC 0))) }
+    ensures { result ≡ permit_asked core.now ranges.now (data_asked a.now (fetching_at image.now core.now ranges.now (get_or core.now PC 0))) }
 {
     let pc = core[PC];
-    match check_access(core, words, Right::Execute, as_address(pc)) {
+    match check_access(core, ranges, Right::Execute, as_address(pc)) {
         Err(_) => None,
         Ok(()) => {
             let rest = rest_of(image, long, pc);
             if rest.records == 0 {
                 return None;
             }
-            permit_record(image, a, core, words, rest.at, pc)
+            permit_record(image, a, core, ranges, rest.at, pc)
         }
     }
 }
@@ -95,12 +94,12 @@ pub fn permits_of(
     a: &[u32; 16],
     core: &[u32; CORE],
     requests: &[u32; 16],
-    words: &[u32; 96],
+    ranges: &[Range; 32],
 ) -> Permits
     requires { ImageHolds image.now × (long ≡ true → long_only image.now ≡ true) }
-    ensures permits { result ≡ permits_of image.now a.now core.now requests.now (ranges_in words.now) }
-    ensures fetch { Exactly (NamedFor core.now (ranges_in words.now) (fetch_asked (get_or core.now PC 0) (beginning_of image.now core.now requests.now (ranges_in words.now)))) result.fetch }
-    ensures access { Exactly (NamedFor core.now (ranges_in words.now) (data_asked a.now (beginning_of image.now core.now requests.now (ranges_in words.now)))) result.data }
+    ensures permits { result ≡ permits_of image.now a.now core.now requests.now ranges.now }
+    ensures fetch { Exactly (NamedFor core.now ranges.now (fetch_asked (get_or core.now PC 0) (beginning_of image.now core.now requests.now ranges.now))) result.fetch }
+    ensures access { Exactly (NamedFor core.now ranges.now (data_asked a.now (beginning_of image.now core.now requests.now ranges.now))) result.data }
 {
     if !fields::syscon::protection(core[SYSCON]) {
         return Permits {
@@ -116,7 +115,7 @@ pub fn permits_of(
         };
     }
     Permits {
-        fetch: permit_for(core, words, Right::Execute, as_address(core[PC])),
-        data: permit_data(image, long, a, core, words),
+        fetch: permit_for(core, ranges, Right::Execute, as_address(core[PC])),
+        data: permit_data(image, long, a, core, ranges),
     }
 }

@@ -17,9 +17,9 @@ use Rattle.protection.specs.Access.{denied_of, peripheral, check_of, permit_of}
 use Rattle.protection.specs.declared.range.Range.{Range}
 use Rattle.protection.specs.declared.range.Right.{Right}
 use Rattle.protection.proofs.Searches.{permitted_by}
-use Rattle.std.specs.Prelude.{Err, None, Ok}
+use Rattle.std.specs.Prelude.{Err, None, Ok, Result, ⊤}
 
-fails_passes : {t : Trap} → Err t ≡ (Ok tt) → ⊥
+fails_passes : {t : Trap} → ◌≡◌ {A = Result ⊤ Trap} (Err t) (Ok tt) → ⊥
 fails_passes e = let z : ◌≡◌ {A = ℕ} 0 1 = cc in omega arith
 
 module _ (core : List ℕ) (rs : List Range) (right : Right) (address : Address) where
@@ -68,7 +68,7 @@ module _ (core : List ℕ) (rs : List Range) (right : Right) (address : Address)
   unfolding check_of
   passes_permitted u p e = by (peripheral address) (permitted rs (psw_prs (get_or core 1 0)) right address) (rw (u, p) at e)
     where
-      by : (b g : Bool) → cond b (Err MPP) (cond g (Ok tt) (Err (denied_of right))) ≡ (Ok tt) → g ≡ true
+      by : (b g : Bool) → ◌≡◌ {A = Result ⊤ Trap} (cond b (Err MPP) (cond g (Ok tt) (Err (denied_of right)))) (Ok tt) → g ≡ true
       by b true e = refl
       by true false e = absurd (fails_passes e)
       by false false e = absurd (fails_passes e)

@@ -15,11 +15,10 @@ use Rattle.words.proofs.Answers.{exactly}
 use Rattle.words.proofs.Integers.{lt_or_ge}
 use Rattle.words.proofs.Truth.{never, both_true}
 use Rattle.memory.specs.declared.address.Address.{Address}
-use Rattle.protection.specs.Range.{range_at, ranges_in, no_range, enables, permits, permits_at, any_from, first_of, permitted, lowest_from, lowest_of, PermittedBy, LowestBy, Lowest}
+use Rattle.protection.specs.Range.{no_range, enables, permits, permits_at, any_from, first_of, permitted, lowest_from, lowest_of, PermittedBy, LowestBy, Lowest}
 use Rattle.protection.specs.declared.range.Range.{Range}
 use Rattle.protection.specs.declared.range.Right.{Right}
 use Rattle.protection.specs.declared.range.Right.TheVariants.{Read, Write, Execute}
-use Rattle.protection.proofs.Ranges.{ranges_at}
 use Rattle.std.specs.Prelude.{None, Option, Some}
 
 module _ (rs : List Range) (right : Right) (address : Address) where
@@ -107,10 +106,6 @@ module _ (rs : List Range) (right : Right) (address : Address) where
     -- the lowest permitting range is the one defined, and nothing else is
     pub lowest_is : (r : Option ℕ) → Lowest rs set right address r → (r ≡ lowest_of rs set right address) × Exactly (Lowest rs set right address) r
     lowest_is r h = exactly (Lowest rs set right address) (lowest_of rs set right address) lowest_says (λ x k. only (lowest_of rs set right address) x lowest_says k) r (only (lowest_of rs set right address) r lowest_says h)
-
--- a range that was read and tried
-pub seen : (ws : List ℕ) (k : ℕ) (right : Right) (address : Address) (g : Range) (t u : Bool) → k < 32 → g ≡ range_at ws k → t ≡ permits g right address → t ≡ u → permits_at (ranges_in ws) k right address ≡ u
-seen ws k right address g t u h is e v = rw (ranges_at ws k h, ← is, ← e) v
 
 -- range i of the set that permits, where none before it does
 pub found : (rs : List Range) (set : ℕ) (right : Right) (address : Address) (from i k : ℕ) → from ≡ first_of set right → i < 4 → k ≡ from + i → permits_at rs (from + i) right address ≡ true → ((j : ℕ) → j < i → permits_at rs (from + j) right address ≡ false) → LowestBy rs set right address k

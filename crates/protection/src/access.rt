@@ -1,19 +1,12 @@
 // What protection says of an access: the traps of class 1.
 
 ghost use Rattle.std.specs.Prelude.{◌≡◌};
-ghost use Rattle.protection.specs.Range.{ranges_in};
 ghost use Rattle.protection.specs.Access.{denied_of, peripheral, permit_of, check_of};
 
-use crate::range::{Permit, Right, search};
+use crate::range::{Range, Right, search};
 use events::trap::{MPP, MPR, MPW, MPX, Trap};
 use memory::address::Address;
 use registers::{CORE, PSW, SYSCON};
-
-#[derive(Clone, Copy)]
-pub enum Check {
-    Passes,
-    Fails(Trap),
-}
 
 // The trap of an access that no range permits.
 fn denied(right: Right) -> Trap
@@ -34,8 +27,13 @@ fn is_peripheral(address: Address) -> bool
 }
 
 // The lowest range of set PRS that permits the access, where the ranges are asked and one does.
-pub fn permit_for(core: &[u32; CORE], words: &[u32; 96], right: Right, address: Address) -> Option<usize>
-    ensures { result ≡ permit_of core.now (ranges_in words.now) right address }
+pub fn permit_for(
+    core: &[u32; CORE],
+    ranges: &[Range; 32],
+    right: Right,
+    address: Address,
+) -> Option<usize>
+    ensures { result ≡ permit_of core.now ranges.now right address }
 {
     if is_peripheral(address) {
         return None;
@@ -44,12 +42,17 @@ pub fn permit_for(core: &[u32; CORE], words: &[u32; 96], right: Right, address: 
         return None;
     }
     let set = fields::psw::protection_set(core[PSW]);
-    search(words, set, right, address)
+    search(ranges, set, right, address)
 }
 
 // Checks the access to an address.
-pub fn check_access(core: &[u32; CORE], words: &[u32; 96], right: Right, address: Address) -> Result<(), Trap>
-    ensures { result ≡ check_of core.now (ranges_in words.now) right address }
+pub fn check_access(
+    core: &[u32; CORE],
+    ranges: &[Range; 32],
+    right: Right,
+    address: Address,
+) -> Result<(), Trap>
+    ensures { result ≡ check_of core.now ranges.now right address }
 {
     if is_peripheral(address) {
         if fields::psw::user0(core[PSW]) {
@@ -61,7 +64,7 @@ pub fn check_access(core: &[u32; CORE], words: &[u32; 96], right: Right, address
         return Ok(());
     }
     match search(
-        words,
+        ranges,
         fields::psw::protection_set(core[PSW]),
         right,
         address,

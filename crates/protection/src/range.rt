@@ -2,7 +2,7 @@
 
 ghost use Rattle.std.specs.Prelude.{◌≡◌, ◌<◌};
 ghost use Rattle.words.specs.Exactly.{Exactly};
-ghost use Rattle.protection.specs.Range.{range_at, ranges_in, enables, permits, first_of, lowest_of, Lowest};
+ghost use Rattle.protection.specs.Range.{enables, permits, first_of, lowest_of, Lowest};
 
 use memory::address::Address;
 
@@ -19,40 +19,6 @@ pub enum Right {
     Read,
     Write,
     Execute,
-}
-
-// The range that permits an access, by its number. None is named where none permits it, or none was asked.
-#[derive(Clone, Copy)]
-pub enum Permit {
-    Unnamed,
-    By(usize),
-}
-
-// The ranges as words, three to a range: the form that the search reads by reference.
-pub fn flat(ranges: [Range; 32]) -> [u32; 96]
-    ensures { ranges_in result ≡ ranges }
-{
-    let mut words = [0; 96];
-    let mut k: usize = 0;
-    while k < 32 {
-        let g = ranges[k];
-        words[3 * k] = g.lower;
-        words[3 * k + 1] = g.upper;
-        words[3 * k + 2] = g.mode;
-        k += 1;
-    }
-    words
-}
-
-fn range_at(words: &[u32; 96], k: usize) -> Range
-    requires { k < 32 }
-    ensures { result ≡ range_at words.now k }
-{
-    Range {
-        lower: words[3 * k],
-        upper: words[3 * k + 1],
-        mode: words[3 * k + 2],
-    }
 }
 
 // Whether a range's mode has the right.
@@ -91,24 +57,17 @@ fn first(set: usize, right: Right) -> usize
     }
 }
 
-// The lowest range of the set that permits the access to an address.
-pub fn search(words: &[u32; 96], set: usize, right: Right, address: Address) -> Option<usize>
+// The lowest range of the set that permits the access to an address, by its number.
+pub fn search(ranges: &[Range; 32], set: usize, right: Right, address: Address) -> Option<usize>
     requires { set < 4 }
-    ensures { (result ≡ lowest_of (ranges_in words.now) set right address) × Exactly (Lowest (ranges_in words.now) set right address) result }
+    ensures { (result ≡ lowest_of ranges.now set right address) × Exactly (Lowest ranges.now set right address) result }
 {
     let from = first(set, right);
-    let mut i: usize = 0;
-    let n = loop {
-        if i == 4 {
-            break 32;
+    for i in 0..4 {
+        let k = from + i;
+        if permitting(ranges[k], right, address) {
+            return Some(k);
         }
-        if permitting(range_at(words, from + i), right, address) {
-            break from + i;
-        }
-        i += 1;
-    };
-    if n == 32 {
-        return None;
     }
-    Some(n)
+    None
 }

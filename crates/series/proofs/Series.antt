@@ -100,7 +100,7 @@ unfolding run_from
 run_state n img r xs rs m = by (step_verdict m img (pc r)) refl n
   where
     by : (v : Result ⊤ Refusal) → step_verdict m img (pc r) ≡ v → (n : ℕ) → after_run (run_of n img r xs rs m) ≡ after_run (run_from n img rs (outcome.Made event.Instruction) 0 r xs m)
-    by (Ok tt) e n = rw (run_accepted img r xs rs m n e)
+    by (Ok _) e n = rw (run_accepted img r xs rs m n e)
     by (Err x) e zero = rw (run_refused img r xs rs m x e 0)
     by (Err x) e (suc n) = rw (run_refused img r xs rs m x e (suc n), step_refused img r xs rs m x e)
 

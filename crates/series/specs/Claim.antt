@@ -59,7 +59,7 @@ StopsBy (outcome.Refused x) before now = now ≡ before
 
 abbrev pub StepBy : Result ⊤ Refusal → Args → AbstractLists → Type 0
 StepBy (Err x) a b = Unit {0}
-StepBy (Ok tt) a b = RestoredBy (decision_at a) (step_at a).registers b
+StepBy (Ok _) a b = RestoredBy (decision_at a) (step_at a).registers b
 
 -- of each step: its return, if it has one, restores; and if it is refused or stopped, the abstract lists are as before
 abbrev pub EachStep : List Args → AbstractLists → Type 0

@@ -24,7 +24,7 @@ decision_at a = decision_of a.image.bytes a.registers a.requests a.ranges a.memo
 
 abbrev pub move_by : Result ⊤ Refusal → Args → ListMove
 move_by (Err x) a = none
-move_by (Ok tt) a = list_move_of (decision_at a) a.registers
+move_by (Ok _) a = list_move_of (decision_at a) a.registers
 
 -- the abstract lists after a step: fed the step's arguments
 unfoldable pub moved_at : Args → AbstractLists → AbstractLists
@@ -53,7 +53,7 @@ pub record Quiet (listed : List Link) (a : Args) : Type 0 where
 
 abbrev pub QuietBy : Result ⊤ Refusal → List Link → Args → Type 0
 QuietBy (Err x) listed a = Unit {0}
-QuietBy (Ok tt) listed a = Quiet listed a
+QuietBy (Ok _) listed a = Quiet listed a
 
 abbrev pub AllQuiet : List Link → List Args → Type 0
 AllQuiet listed [] = Unit {0}

@@ -223,7 +223,7 @@ module _ (img core : List ℕ) (rs : List Range) where
     fetch_passes = by (check_of core rs Execute (as_address (get_or core 0 0))) refl
       where
         by : (c : Result ⊤ Trap) → check_of core rs Execute (as_address (get_or core 0 0)) ≡ c → c ≡ (Ok tt)
-        by (Ok tt) e = refl
+        by (Ok _) e = refl
         by (Err t) e = absurd (never_executes (sym (ahead_denied img core rs t (sym e)) ∙ h))
 
     fetch_finds : 0 < (rest_of img (get_or core 0 0)).records

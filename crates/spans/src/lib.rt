@@ -6,7 +6,6 @@ pub mod index;
 
 ghost use Rattle.std.specs.Prelude.{◌≡◌, ◌<◌, ◌≤◌, Ok};
 ghost use Rattle.memory.specs.Address.{as_address};
-ghost use Rattle.protection.specs.Range.{ranges_in};
 ghost use Rattle.protection.specs.Access.{check_of};
 ghost use Rattle.image.specs.Records.{ImageHolds};
 ghost use Rattle.image.specs.Marks.{Guides};
@@ -50,22 +49,22 @@ fn records_below(upper: u32, pc: u32) -> u32
 }
 
 // Of so many records from pc on, how many protection lets be fetched, where it lets the first.
-fn fetchable(core: &[u32; CORE], words: &[u32; 96], pc: u32, records: u32) -> u32
-    requires { (check_of core.now (ranges_in words.now) Right.Execute (as_address pc) ≡ (Ok tt)) × (0 < records) }
-    ensures { result ≡ fetchable_of core.now (ranges_in words.now) pc records }
+fn fetchable(core: &[u32; CORE], ranges: &[Range; 32], pc: u32, records: u32) -> u32
+    requires { (check_of core.now ranges.now Right.Execute (as_address pc) ≡ (Ok tt)) × (0 < records) }
+    ensures { result ≡ fetchable_of core.now ranges.now pc records }
 {
     if !fields::syscon::protection(core[SYSCON]) {
         return records;
     }
     match search(
-        words,
+        ranges,
         fields::psw::protection_set(core[PSW]),
         Right::Execute,
         as_address(pc),
     ) {
         None => 1,
         Some(k) => {
-            let below = records_below(words[3 * k + 1], pc);
+            let below = records_below(ranges[3 * k + 1], pc);
             if below < records {
                 return below;
             }
@@ -125,13 +124,13 @@ pub fn look_ahead(
     guide: Guide,
     marks: &[u64],
     core: &[u32; CORE],
-    words: &[u32; 96],
+    ranges: &[Range; 32],
 ) -> Result<Span, Trap>
     requires { ImageHolds image.now × Guides image.now guide marks.now }
-    ensures { LiesAhead image.now guide.long core.now (ranges_in words.now) result }
+    ensures { LiesAhead image.now guide.long core.now ranges.now result }
 {
     let pc = core[PC];
-    match check_access(core, words, Right::Execute, as_address(pc)) {
+    match check_access(core, ranges, Right::Execute, as_address(pc)) {
         Err(t) => Err(t),
         Check::(Ok tt) => {
             let found = rest_guided(image, guide, marks, pc);
@@ -139,7 +138,7 @@ pub fn look_ahead(
             if rest.records == 0 {
                 return Err(CODE);
             }
-            let n = fetchable(core, words, pc, rest.records);
+            let n = fetchable(core, ranges, pc, rest.records);
             Ok(span_of(image, guide.long, found, pc, n))
         }
     }

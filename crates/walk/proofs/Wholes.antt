@@ -35,7 +35,7 @@ rest_more img r xs w made text = refl
 by_verdict : (img : List ℕ) (v : Result ⊤ Refusal) → with_rest img (begin_by img v) ≡ walk_by img v
 unfolding remaining
 by_verdict img (Err x) = append-nil (refused_of x)
-by_verdict img (Ok tt) = refl
+by_verdict img (Ok _) = refl
 
 by_length : (img : List ℕ) (long : Bool) (v : Result ⊤ Refusal) → with_rest img (cond long (first_block img true long_text) (begin_by img v)) ≡ cond long long_text (walk_by img v)
 unfolding remaining

@@ -39,7 +39,7 @@ first_block img over text = block start_bytes (start_registers img) (replicate 1
 
 abbrev pub begin_by : List ℕ → Result ⊤ Refusal → Block
 begin_by img (Err x) = first_block img true (refused_of x)
-begin_by img (Ok tt) = first_block img false header_text
+begin_by img (Ok _) = first_block img false header_text
 
 unfoldable pub begin_of : List ℕ → Block
 begin_of img = cond (ltb longest (length img)) (first_block img true long_text) (begin_by img (start_verdict_of img))

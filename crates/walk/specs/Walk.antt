@@ -50,7 +50,7 @@ walk_from (suc n) img made r xs w =
 
 abbrev pub walk_by : List ℕ → Result ⊤ Refusal → List ℕ
 walk_by img (Err x) = refused_of x
-walk_by img (Ok tt) = header_text ++ walk_from all_steps img 0 (start_registers img) (replicate 16 0) start_bytes
+walk_by img (Ok _) = header_text ++ walk_from all_steps img 0 (start_registers img) (replicate 16 0) start_bytes
 
 -- what the program prints for an image
 unfoldable pub walk_of : List ℕ → List ℕ

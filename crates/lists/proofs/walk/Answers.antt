@@ -28,7 +28,7 @@ pub returns-then-met-k : goal.returns-then-met-k
 returns-then-met-k c =
     let m = lent c.args.base c.args.window.now c.args.base2 c.args.window2.now in
     let l = c.loop-l in
-    let p = c.in-At.at in
+    let p = c.in-Some.at in
     let found : place_of m l.l ≡ Some p = cc in
     sym (walk_again 2048 m l.l l.met c.loop-l-test.true p found c.if-met-k.true) ∙ l.invariant.1
 
@@ -36,7 +36,7 @@ pub loop-l-smaller : goal.loop-l-smaller
 loop-l-smaller c =
     let m = lent c.args.base c.args.window.now c.args.base2 c.args.window2.now in
     let l = c.loop-l in
-    let p = c.in-At.at in
+    let p = c.in-Some.at in
     let found : place_of m l.l ≡ Some p = cc in
     omega (arith, unmet_set l.met (p / 64) (mark_in m l.l l.met p c.requires.0 l.invariant.0 found) c.if-met-k.false)
 
@@ -44,7 +44,7 @@ pub loop-l-preserved : goal.loop-l-preserved
 loop-l-preserved c =
     let m = lent c.args.base c.args.window.now c.args.base2 c.args.window2.now in
     let l = c.loop-l in
-    let p = c.in-At.at in
+    let p = c.in-Some.at in
     let found : place_of m l.l ≡ Some p = cc in
     let on = walk_next m l.l l.met p c.requires.0 l.invariant.0 c.loop-l-test.true found c.if-met-k.false in (
       simp length-set l.invariant.0,
@@ -64,7 +64,7 @@ pub bounds-met-k : goal.bounds-met-k
 bounds-met-k c =
     let m = lent c.args.base c.args.window.now c.args.base2 c.args.window2.now in
     let l = c.loop-l in
-    let p = c.in-At.at in
+    let p = c.in-Some.at in
     let found : place_of m l.l ≡ Some p = cc in
     omega (arith, (placed_at_lem m.windows (length m.bytes) (area_address l.l) p found).inside, c.requires.0)
 
@@ -72,7 +72,7 @@ pub bounds-met-k-in-loop-l : goal.bounds-met-k-in-loop-l
 bounds-met-k-in-loop-l c =
     let m = lent c.args.base c.args.window.now c.args.base2 c.args.window2.now in
     let l = c.loop-l in
-    let p = c.in-At.at in
+    let p = c.in-Some.at in
     let found : place_of m l.l ≡ Some p = cc in
     omega (arith, (placed_at_lem m.windows (length m.bytes) (area_address l.l) p found).inside, c.requires.0)
 
@@ -80,6 +80,6 @@ pub next_link-l-requires : goal.next_link-l-requires
 next_link-l-requires c =
     let m = lent c.args.base c.args.window.now c.args.base2 c.args.window2.now in
     let l = c.loop-l in
-    let p = c.in-At.at in
+    let p = c.in-Some.at in
     let found : place_of m l.l ≡ Some p = cc in
     (p, found)

@@ -19,7 +19,7 @@ pub span_of-requires : goal.span_of-requires
 span_of-requires c =
     let a = c.args in
     let n : 0 < c.rest_guided-found.result.rest.records = omega (arith, c.if-rest-eq0.false) in
-    let w = fetchable_says a.core.now (ranges_in a.words.now) _ _ n (sym (rw c.as_address.ensures at c.check_access.ensures) ∙ c.in-Passes.is) in
+    let w = fetchable_says a.core.now a.ranges.now _ _ n (sym (rw c.as_address.ensures at c.check_access.ensures) ∙ c.in-Passes.is) in
     let l = w.within in
     (c.requires.0, c.rest_guided-found.ensures, n, omega (arith, c.fetchable-n.ensures))
 
@@ -37,4 +37,4 @@ returns-else-rest-eq0 c =
     let m = subst (λ (x : InBody). 0 < x.rest.records) e n in
     let l = rw e at c.fetchable-n.ensures in
     let s = c.span_of.ensures ∙ ap (span_of a.image.now a.guide.long (get_or a.core.now 0 0)) l in
-    (ahead_first a.image.now a.core.now (ranges_in a.words.now) a.guide.long _ p.0 p.1.all_long (sym h ∙ t) m s, s)
+    (ahead_first a.image.now a.core.now a.ranges.now a.guide.long _ p.0 p.1.all_long (sym h ∙ t) m s, s)

@@ -2,21 +2,21 @@ use mathlib.Core.Path.{sym, ◌∙◌}
 use Rattle.areas.proofs.Places.{spot_first, spot_second, spot_neither}
 use Rattle.areas.proofs.link.spot_at.Goals as goal
 
-pub returns-in-At : goal.returns-in-At
-returns-in-At c =
+pub returns-in-Some : goal.returns-in-Some
+returns-in-Some c =
     let a = c.args in
-    spot_first a.window.now a.window2.now _ _ _ _ _ (sym c.place_in.ensures ∙ c.in-At.is)
+    spot_first a.window.now a.window2.now _ _ _ _ _ (sym c.place_in.ensures ∙ c.in-Some.is)
 
-pub returns-in-At-place_in : goal.returns-in-At-place_in
-returns-in-At-place_in c =
+pub returns-in-Some-place_in : goal.returns-in-Some-place_in
+returns-in-Some-place_in c =
     let a = c.args in
     spot_second a.window.now a.window2.now _ _ _ _ _
-    (sym c.place_in.ensures ∙ c.in-Outside.is)
-    (sym c.place_in-in-Outside.ensures ∙ c.in-At-place_in.is)
+    (sym c.place_in.ensures ∙ c.in-None.is)
+    (sym c.place_in-in-None.ensures ∙ c.in-Some-place_in.is)
 
-pub returns-in-Outside-place_in : goal.returns-in-Outside-place_in
-returns-in-Outside-place_in c =
+pub returns-in-None-place_in : goal.returns-in-None-place_in
+returns-in-None-place_in c =
     let a = c.args in
     spot_neither a.window.now a.window2.now _ _ _ _
-    (sym c.place_in.ensures ∙ c.in-Outside.is)
-    (sym c.place_in-in-Outside.ensures ∙ c.in-Outside-place_in.is)
+    (sym c.place_in.ensures ∙ c.in-None.is)
+    (sym c.place_in-in-None.ensures ∙ c.in-None-place_in.is)

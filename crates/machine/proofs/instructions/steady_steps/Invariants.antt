@@ -7,7 +7,7 @@ use Rattle.machine.proofs.instructions.steady_steps.Given as goal
 
 abbrev pub invariant-loop-left : goal.invariant-loop-left
 invariant-loop-left l = ((length l.window ≡ length l.initial.window) × (length l.window2 ≡ length l.initial.window2))
-    × Goes l.n l.image (ranges_in l.words) (registers l.initial.registers.d l.initial.registers.a l.initial.registers.core) (lent l.base l.initial.window l.base2 l.initial.window2) l.guide.long l.s l.left l.at l.k l.next l.after (registers l.d l.a l.core) (lent l.base l.window l.base2 l.window2)
+    × Goes l.n l.image l.ranges (registers l.initial.registers.d l.initial.registers.a l.initial.registers.core) (lent l.base l.initial.window l.base2 l.initial.window2) l.guide.long l.s l.left l.at l.k l.next l.after (registers l.d l.a l.core) (lent l.base l.window l.base2 l.window2)
 
 abbrev pub decreases-loop-left : goal.decreases-loop-left
 decreases-loop-left l = l.left

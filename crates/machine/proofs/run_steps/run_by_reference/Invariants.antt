@@ -6,7 +6,7 @@ use Rattle.machine.proofs.Loops.{Turn}
 use Rattle.machine.proofs.run_steps.run_by_reference.Given as goal
 
 abbrev pub invariant-loop-left : goal.invariant-loop-left
-invariant-loop-left l = ((length l.window ≡ length l.initial.window) × (length l.window2 ≡ length l.initial.window2)) × Turn l.n l.image (ranges_in l.words) (registers l.initial.registers.d l.initial.registers.a l.initial.registers.core) l.initial.requests (lent l.base l.initial.window l.base2 l.initial.window2) l.left l.last (registers l.d l.a l.core) l.requests (lent l.base l.window l.base2 l.window2) l.best
+invariant-loop-left l = ((length l.window ≡ length l.initial.window) × (length l.window2 ≡ length l.initial.window2)) × Turn l.n l.image l.ranges (registers l.initial.registers.d l.initial.registers.a l.initial.registers.core) l.initial.requests (lent l.base l.initial.window l.base2 l.initial.window2) l.left l.last (registers l.d l.a l.core) l.requests (lent l.base l.window l.base2 l.window2) l.best
 
 abbrev pub decreases-loop-left : goal.decreases-loop-left
 decreases-loop-left l = l.left

@@ -11,8 +11,8 @@ returns-then-is_peripheral c = to_peripherals _ _ _ _ (sym c.is_peripheral.ensur
 pub returns-then-not-protection : goal.returns-then-not-protection
 returns-then-not-protection c = unasked _ _ _ _ (sym c.is_peripheral.ensures ∙ c.if-is_peripheral.false) (sym c.protection.ensures ∙ c.if-not-protection.true)
 
-pub returns-in-Unnamed : goal.returns-in-Unnamed
-returns-in-Unnamed c = rw c.denied.ensures (denied _ _ _ _ (sym c.is_peripheral.ensures ∙ c.if-is_peripheral.false) (sym c.protection.ensures ∙ c.if-not-protection.false) (rw (← c.protection_set.ensures.0) (rw c.in-Unnamed.is at c.search.ensures.1.says)))
+pub returns-in-None : goal.returns-in-None
+returns-in-None c = rw c.denied.ensures (denied _ _ _ _ (sym c.is_peripheral.ensures ∙ c.if-is_peripheral.false) (sym c.protection.ensures ∙ c.if-not-protection.false) (rw (← c.protection_set.ensures.0) (rw c.in-None.is at c.search.ensures.1.says)))
 
-pub returns-in-By : goal.returns-in-By
-returns-in-By c = allowed _ _ _ _ c.in-By.field-0 (sym c.is_peripheral.ensures ∙ c.if-is_peripheral.false) (sym c.protection.ensures ∙ c.if-not-protection.false) (rw (← c.protection_set.ensures.0) (rw c.in-By.is at c.search.ensures.1.says).one)
+pub returns-in-Some : goal.returns-in-Some
+returns-in-Some c = allowed _ _ _ _ c.in-Some.field-0 (sym c.is_peripheral.ensures ∙ c.if-is_peripheral.false) (sym c.protection.ensures ∙ c.if-not-protection.false) (rw (← c.protection_set.ensures.0) (rw c.in-Some.is at c.search.ensures.1.says).one)
