@@ -1,9 +1,7 @@
 -- A save as the code makes it: what is foreseen, then the area taken, is the save of the definition.
 -- Assumes nothing.
 use Prim.Native.Nat.{ℕ}
-use native.Mathlib.Omega.{arith}
-use mathlib.Core.Path.{◌≡◌, refl, ap, ap₂, ◌∙◌}
-use mathlib.Core.Bool.{true, false}
+use mathlib.Core.Path.{◌≡◌, sym, ap, ap₂, ◌∙◌}
 use mathlib.Core.List.{List, ◌++◌}
 use lib.ListN.{length, get_or}
 use Rattle.memory.specs.Memory.{windows, Memory, memory, lent}
@@ -18,12 +16,11 @@ use Rattle.areas.proofs.Places.{spot_at_place}
 use Rattle.areas.proofs.Parts.{first_word_placed}
 use Rattle.registers.specs.Core.{FCX}
 use Rattle.events.specs.declared.event.Stop.{Stop}
-use Rattle.contexts.specs.Save.{room_of, Taken, taken, heads_of, take_of, foreseen_of, stops_of, saving, taking, saved_by, save_at_of, save_of}
+use Rattle.contexts.specs.Save.{room_of, Taken, taken, heads_of, take_of, foreseen_of, saving, saved_by, save_at_of, save_of}
 use Rattle.contexts.specs.declared.context.Half.{Half}
 use Rattle.contexts.proofs.Rooms.{room_at_lem}
 use Rattle.std.specs.Prelude.{Err, Ok, Result, Some}
 use Rattle.contexts.specs.declared.save.Saved.{Saved}
-use Rattle.contexts.specs.declared.save.Saved.TheVariants.{Depleted, Done}
 
 module _ (core s t : List ℕ) (b c : Address) where
   abbrev m : Memory
@@ -65,27 +62,13 @@ module _ (core s t : List ℕ) (b c : Address) where
       save_is = rw (e, ← foreseen_is)
 
       -- it stops, and all is as it was
-      pub save_foreseen : stops_of v ≡ true → saving v core m ≡ save_of half words core m
-      save_foreseen g = by v g ∙ save_is
-        where
-          by : (v : Result Saved Stop) → stops_of v ≡ true → saving v core m ≡ saved_by half words at core m v
-          by (Err x) g = refl
-          by (Ok Done) g = absurd (let z : ◌≡◌ {A = ℕ} 0 1 = cc in omega arith)
-          by (Ok Depleted) g = absurd (let z : ◌≡◌ {A = ℕ} 0 1 = cc in omega arith)
+      pub save_foreseen : (x : Stop) → v ≡ Err x → saving (Err x) core m ≡ save_of half words core m
+      save_foreseen x g = ap (saved_by half words at core m) (sym g) ∙ save_is
 
       -- it is made
-      pub save_made : stops_of v ≡ false → (x : Spot) → x ≡ spot_of m l → (core' bytes' : List ℕ) (k : ℕ)
+      pub save_made : (y : Saved) → v ≡ Ok y → (x : Spot) → x ≡ spot_of m l → (core' bytes' : List ℕ) (k : ℕ)
           → taken core' bytes' ≡ taken (heads_of half next core) (put_words (s ++ t) (offset (length s) x) words 16) → k ≡ length s
-          → saving v core' (memory (windows b k c) bytes') ≡ save_of half words core m
-      save_made g x h core' bytes' k q e = by v g ∙ save_is
-        where
-          is : taken core' bytes' ≡ take_of half words at core (s ++ t)
-          is = q ∙ taken_is half words next n x h
-
-          made : (v : Result Saved Stop) → saving v core' (memory (windows b k c) bytes') ≡ taking v m.windows (take_of half words at core (s ++ t))
-          made v = ap₂ (λ (j : ℕ) (z : Taken). saving v z.core (memory (windows b j c) z.bytes)) e is
-
-          by : (v : Result Saved Stop) → stops_of v ≡ false → saving v core' (memory (windows b k c) bytes') ≡ saved_by half words at core m v
-          by (Err x) g = absurd (let z : ◌≡◌ {A = ℕ} 0 1 = cc in omega arith)
-          by (Ok Done) g = made (Ok Done)
-          by (Ok Depleted) g = made (Ok Depleted)
+          → saving (Ok y) core' (memory (windows b k c) bytes') ≡ save_of half words core m
+      save_made y g x h core' bytes' k q e =
+          ap₂ (λ (j : ℕ) (z : Taken). saving (Ok y) z.core (memory (windows b j c) z.bytes)) e (q ∙ taken_is half words next n x h)
+          ∙ ap (saved_by half words at core m) (sym g) ∙ save_is

@@ -1,5 +1,5 @@
 -- A save (002, 4.3 and 4.6.1): the area at FCX, its context, and the heads of the lists.
-use Rattle.std.specs.Prelude.{ℕ, Bool, true, false, cond, List, length, get_or, set, eqb, Err, None, Ok, Option, Result, Some}
+use Rattle.std.specs.Prelude.{ℕ, cond, List, length, get_or, set, eqb, Err, Ok, Result, ok_or}
 use Rattle.memory.specs.Memory.{Windows, Memory, memory}
 use Rattle.memory.specs.Word.{word_at, put_words}
 use Rattle.fields.specs.Link.{link_of}
@@ -15,13 +15,9 @@ use Rattle.events.specs.declared.event.Stop.{Stop}
 use Rattle.contexts.specs.declared.save.Saved.{Saved}
 use Rattle.contexts.specs.declared.save.Saved.TheVariants.{Depleted, Done}
 
-abbrev pub room_by : Option ℕ → Result ℕ Stop
-room_by (Some at) = Ok at
-room_by None = Err Outside
-
 -- the area that a link names, for a save: 11 where the link is 0, 12 where neither window has the area
 unfoldable pub room_at : Windows → ℕ → Link → Result ℕ Stop
-room_at w len l = cond (eqb l.0 0) (Err NoArea) (room_by (placed w len (area_address l)))
+room_at w len l = cond (eqb l.0 0) (Err NoArea) (ok_or (placed w len (area_address l)) Outside)
 
 abbrev pub room_of : Memory → Link → Result ℕ Stop
 room_of m l = room_at m.windows (length m.bytes) l
@@ -68,15 +64,9 @@ foreseen_of core m next =
     let lcx = get_or core LCX 0 in
     cond (eqb (link_of fcx).0 (link_of lcx).0) (foreseen_by (room_of m next)) (Ok Done)
 
-abbrev pub stops_of : Result Saved Stop → Bool
-stops_of (Err s) = true
-stops_of (Ok Done) = false
-stops_of (Ok Depleted) = false
-
 abbrev pub saved_by : Half → List ℕ → ℕ → List ℕ → Memory → Result Saved Stop → Saving
 saved_by half words at core m (Err s) = saving (Err s) core m
-saved_by half words at core m (Ok Done) = taking (Ok Done) m.windows (take_of half words at core m.bytes)
-saved_by half words at core m (Ok Depleted) = taking (Ok Depleted) m.windows (take_of half words at core m.bytes)
+saved_by half words at core m (Ok s) = taking (Ok s) m.windows (take_of half words at core m.bytes)
 
 -- a save into the area at byte `at`
 unfoldable pub save_at_of : Half → List ℕ → ℕ → List ℕ → Memory → Saving

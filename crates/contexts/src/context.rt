@@ -1,9 +1,7 @@
 // The sixteen words of a context, in the order of Figure 3 read upward.
 
 ghost use Rattle.std.specs.Prelude.{◌≡◌};
-ghost use Rattle.contexts.specs.Context.{ul_of};
-ghost use Rattle.registers.specs.Registers.{registers};
-ghost use Rattle.contexts.specs.Context.{upper_of, lower_of};
+ghost use Rattle.contexts.specs.Context.{ul_of, upper_of, lower_of, context_of};
 
 use registers::{PCXI, PSW, Registers};
 
@@ -27,18 +25,30 @@ pub fn ul(half: Half) -> bool
 pub fn upper(registers: &Registers) -> [u32; 16]
     ensures { result ≡ upper_of registers.now }
 {
+    let Registers { d, a, core } = registers;
     [
-        registers.core[PCXI], registers.core[PSW], registers.a[10], registers.a[11], registers.a[12], registers.a[13], registers.a[14], registers.a[15], registers.d[8], registers.d[9], registers.d[10], registers.d[11],
-        registers.d[12], registers.d[13], registers.d[14], registers.d[15],
+        core[PCXI], core[PSW], a[10], a[11], a[12], a[13], a[14], a[15], d[8], d[9], d[10], d[11],
+        d[12], d[13], d[14], d[15],
     ]
 }
 
 // The lower context: PCXI, the saved PC, A2 to A7, D0 to D7.
-pub fn lower(registers: &Registers, pc: u32) -> [u32; 16]
+fn lower(registers: &Registers, pc: u32) -> [u32; 16]
     ensures { result ≡ lower_of pc registers.now }
 {
+    let Registers { d, a, core } = registers;
     [
-        registers.core[PCXI], pc, registers.a[2], registers.a[3], registers.a[4], registers.a[5], registers.a[6], registers.a[7], registers.d[0], registers.d[1], registers.d[2], registers.d[3], registers.d[4], registers.d[5],
-        registers.d[6], registers.d[7],
+        core[PCXI], pc, a[2], a[3], a[4], a[5], a[6], a[7], d[0], d[1], d[2], d[3], d[4], d[5],
+        d[6], d[7],
     ]
+}
+
+// The context of a half, with the saved PC of a lower one.
+pub fn context(registers: &Registers, half: Half, pc: u32) -> [u32; 16]
+    ensures { result ≡ context_of half pc registers.now }
+{
+    match half {
+        Half::Upper => upper(registers),
+        Half::Lower => lower(registers, pc),
+    }
 }

@@ -4,44 +4,40 @@ ghost use Rattle.std.specs.Prelude.{◌≡◌, ◌++◌, length};
 ghost use Rattle.memory.specs.Memory.{lent};
 ghost use Rattle.memory.specs.Word.{put_words};
 ghost use Rattle.areas.specs.Place.{LiesIn, offset};
-ghost use Rattle.registers.specs.Registers.{registers};
-ghost use Rattle.contexts.specs.Context.{upper_of, lower_of};
-ghost use Rattle.contexts.specs.Save.{room_of, taken, heads_of, foreseen_of, stops_of, saving, save_of};
+ghost use Rattle.registers.specs.Registers.{with_cores};
+ghost use Rattle.contexts.specs.Context.{context_of};
+ghost use Rattle.contexts.specs.Save.{room_of, taken, heads_of, foreseen_of, saving, save_of};
 
-use crate::context::{Half, lower, ul, upper};
+use crate::context::{Half, context, ul};
 use areas::area::{next_link, write_area};
-use areas::link::{Place, Spot, locate, spot_of};
+use areas::link::{Spot, locate, spot_of};
 use events::event::Stop;
 use fields::link::{Link, link_of};
 use memory::address::Address;
 use registers::{CORE, FCX, ICR, LCX, PCXI, Registers};
 
-// The area for a save, or why there is none.
-#[derive(Clone, Copy)]
-pub enum Room {
-    At(usize),
-    Stops(Stop),
-}
-
+// What a save comes to that does not stop.
 #[derive(Clone, Copy)]
 pub enum Saved {
     Done,
     // the area taken is the one that LCX names: an FCD entry follows, and there is an area for it
     Depleted,
-    Stops(Stop),
 }
 
 // The area that a link names, for a save.
-pub fn find(base: Address, window: &[u8], base2: Address, window2: &[u8], l: Link) -> Result<usize, Stop>
+pub fn find(
+    base: Address,
+    window: &[u8],
+    base2: Address,
+    window2: &[u8],
+    l: Link,
+) -> Result<usize, Stop>
     ensures { result ≡ room_of (lent base window.now base2 window2.now) l }
 {
     if l.0 == 0 {
         return Err(Stop::NoArea);
     }
-    match locate(base, window, base2, window2, l) {
-        Some(at) => Ok(at),
-        None => Err(Stop::Outside),
-    }
+    locate(base, window, base2, window2, l).ok_or(Stop::Outside)
 }
 
 // Whether an FCD entry follows the save of the area at FCX, and whether there is an area for it.
@@ -60,20 +56,8 @@ fn foresee(
     if taken.0 != limit.0 {
         return Ok(Saved::Done);
     }
-    match find(base, window, base2, window2, next) {
-        Err(s) => Err(s),
-        Ok(_) => Ok(Saved::Depleted),
-    }
-}
-
-fn stops(saved: Result<Saved, Stop>) -> bool
-    ensures { result ≡ stops_of saved }
-{
-    match saved {
-        Err(_) => true,
-        Ok(Saved::Done) => false,
-        Ok(Saved::Depleted) => false,
-    }
+    find(base, window, base2, window2, next)?;
+    Ok(Saved::Depleted)
 }
 
 // Takes the area: the context is written, PCXI names the area, and FCX the next one.
@@ -95,57 +79,25 @@ pub fn take(
     core[FCX] = next.0;
 }
 
-// A save of the upper context. Nothing is written before it is known that neither it nor an FCD entry after it stops.
-pub fn save_upper(
+// A save of a half of the context, with the saved PC of a lower one. Nothing is written before it is known that neither it nor an FCD entry after it stops.
+pub fn save(
     base: Address,
     window: &mut [u8],
     base2: Address,
     window2: &mut [u8],
     registers: &mut Registers,
-) -> Result<Saved, Stop>
-    ensures { saving result registers.new.core (lent base window.new base2 window2.new) ≡ save_of Half.Upper (upper_of registers.old) registers.old.core (lent base window.old base2 window2.old) }
-{
-    let l = link_of(registers.core[FCX]);
-    match find(base, window, base2, window2, l) {
-        Err(s) => Err(s),
-        Ok(_) => {
-            let at = spot_of(base, window, base2, window2, l);
-            let next = next_link(base, window, base2, window2, l);
-            let saved = foresee(base, window, base2, window2, &registers.core, next);
-            if stops(saved) {
-                return saved;
-            }
-            let words = upper(registers);
-            take(window, window2, &mut registers.core, at, Half::Upper, words, next);
-            saved
-        }
-    }
-}
-
-// A save of the lower context, with the saved PC.
-pub fn save_lower(
-    base: Address,
-    window: &mut [u8],
-    base2: Address,
-    window2: &mut [u8],
-    registers: &mut Registers,
+    half: Half,
     pc: u32,
 ) -> Result<Saved, Stop>
-    ensures { saving result registers.new.core (lent base window.new base2 window2.new) ≡ save_of Half.Lower (lower_of pc registers.old) registers.old.core (lent base window.old base2 window2.old) }
+    ensures saved { saving result registers.new.core (lent base window.new base2 window2.new) ≡ save_of half (context_of half pc registers.old) registers.old.core (lent base window.old base2 window2.old) }
+    ensures others_kept { registers.new ≡ with_cores registers.new.core registers.old }
 {
     let l = link_of(registers.core[FCX]);
-    match find(base, window, base2, window2, l) {
-        Err(s) => Err(s),
-        Ok(_) => {
-            let at = spot_of(base, window, base2, window2, l);
-            let next = next_link(base, window, base2, window2, l);
-            let saved = foresee(base, window, base2, window2, &registers.core, next);
-            if stops(saved) {
-                return saved;
-            }
-            let words = lower(registers, pc);
-            take(window, window2, &mut registers.core, at, Half::Lower, words, next);
-            saved
-        }
-    }
+    find(base, window, base2, window2, l)?;
+    let at = spot_of(base, window, base2, window2, l);
+    let next = next_link(base, window, base2, window2, l);
+    let saved = foresee(base, window, base2, window2, &registers.core, next)?;
+    let words = context(registers, half, pc);
+    take(window, window2, &mut registers.core, at, half, words, next);
+    Ok(saved)
 }

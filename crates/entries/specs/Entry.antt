@@ -5,7 +5,7 @@ use Rattle.memory.specs.Memory.{Memory, memory}
 use Rattle.fields.specs.Psw.{psw_is}
 use Rattle.fields.specs.Icr.{icr_ccpn, icr_of}
 use Rattle.fields.specs.Link.{link_of}
-use Rattle.registers.specs.Registers.{registers, A, pc, psw, fcx, icr, isp, biv, btv, with_d, with_a, with_pc, with_psw, with_icr, new_pc}
+use Rattle.registers.specs.Registers.{A, pc, psw, fcx, icr, isp, biv, btv, with_d, with_a, with_pc, with_psw, with_icr, with_cores, new_pc}
 use Rattle.registers.specs.declared.Registers.{Registers}
 use Rattle.events.specs.Traps.{FCD}
 use Rattle.events.specs.declared.trap.Trap.{Trap}
@@ -51,10 +51,6 @@ pub record MadeOf : Type 0 where
 
 abbrev pub made : Result Event Stop → Registers → Memory → MadeOf
 made e r m = record { ending = e; registers = r; memory = m }
-
--- the registers with other core registers
-abbrev pub with_cores : List ℕ → Registers → Registers
-with_cores core r = registers r.d r.a core
 
 -- the FCD entry works on the state that the step had reached, with the new PC as its return address; it raises no second one. The save before it has looked for its area
 abbrev pub fcd_by : Registers → Memory → Result ℕ Stop → MadeOf

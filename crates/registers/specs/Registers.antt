@@ -59,6 +59,10 @@ with_a n v r = registers r.d (slice_set r.a n v) r.core
 abbrev pub with_core : ℕ → ℕ → Registers → Registers
 with_core n v r = registers r.d r.a (slice_set r.core n v)
 
+-- all core registers written
+abbrev pub with_cores : List ℕ → Registers → Registers
+with_cores core r = registers r.d r.a core
+
 abbrev pub with_pc : ℕ → Registers → Registers
 with_pc v r = with_core PC v r
 
