@@ -2,15 +2,14 @@
 
 ghost use Rattle.std.specs.Prelude.{◌≡◌};
 ghost use Rattle.memory.specs.Memory.{lent};
-ghost use Rattle.registers.specs.Registers.{registers};
 ghost use Rattle.entries.specs.Entry.{made, fcd_of, cause_event, cause_entry, enter_of};
 
 use crate::setting::{enter_interrupt, enter_trap};
 use areas::area::next_link;
 use areas::link::spot_of;
 use contexts::context::{Half, upper};
-use contexts::save::{Room, Saved, find, save_upper, take};
-use events::event::{Ending, Event};
+use contexts::save::{Saved, find, save, take};
+use events::event::{Event, Stop};
 use events::trap::{FCD, Trap};
 use fields::link::link_of;
 use memory::address::Address;
@@ -27,18 +26,22 @@ pub fn enter_fcd(
     ensures { made result registers.new (lent base window.new base2 window2.new) ≡ fcd_of registers.old (lent base window.old base2 window2.old) }
 {
     let l = link_of(registers.core[FCX]);
-    match find(base, window, base2, window2, l) {
-        Err(s) => Err(s),
-        Ok(_) => {
-            let at = spot_of(base, window, base2, window2, l);
-            let next = next_link(base, window, base2, window2, l);
-            let words = upper(registers);
-            take(window, window2, &mut registers.core, at, Half::Upper, words, next);
-            let pc = registers.core[PC];
-            enter_trap(registers, FCD, pc);
-            Ok(Event::Trap(FCD))
-        }
-    }
+    find(base, window, base2, window2, l)?;
+    let at = spot_of(base, window, base2, window2, l);
+    let next = next_link(base, window, base2, window2, l);
+    let words = upper(registers);
+    take(
+        window,
+        window2,
+        &mut registers.core,
+        at,
+        Half::Upper,
+        words,
+        next,
+    );
+    let pc = registers.core[PC];
+    enter_trap(registers, FCD, pc);
+    Ok(Event::Trap(FCD))
 }
 
 // What an entry is for.
@@ -79,16 +82,11 @@ fn enter(
 ) -> Result<Event, Stop>
     ensures { made result registers.new (lent base window.new base2 window2.new) ≡ enter_of cause registers.old (lent base window.old base2 window2.old) }
 {
-    match save_upper(base, window, base2, window2, registers) {
-        Err(s) => Err(s),
-        Ok(Saved::Done) => {
-            set_entry(registers, cause);
-            Ok(event_of(cause))
-        }
-        Ok(Saved::Depleted) => {
-            set_entry(registers, cause);
-            enter_fcd(base, window, base2, window2, registers)
-        }
+    let saved = save(base, window, base2, window2, registers, Half::Upper, 0)?;
+    set_entry(registers, cause);
+    match saved {
+        Saved::Done => Ok(event_of(cause)),
+        Saved::Depleted => enter_fcd(base, window, base2, window2, registers),
     }
 }
 

@@ -1,7 +1,6 @@
 // What an entry sets in the registers.
 
 ghost use Rattle.std.specs.Prelude.{◌≡◌};
-ghost use Rattle.registers.specs.Registers.{registers};
 ghost use Rattle.entries.specs.Entry.{stack_of, entered_of, trap_entry, interrupt_entry};
 
 use events::trap::Trap;
@@ -31,7 +30,11 @@ pub fn enter_trap(registers: &mut Registers, t: Trap, back: u32)
     ensures { registers.new ≡ trap_entry t back registers.old }
 {
     enter(registers, back);
-    registers.core[ICR] = fields::icr::written(registers.core[ICR], false, fields::icr::priority(registers.core[ICR]));
+    registers.core[ICR] = fields::icr::written(
+        registers.core[ICR],
+        false,
+        fields::icr::priority(registers.core[ICR]),
+    );
     registers.d[15] = t.tin as u32;
     registers.core[PC] = new_pc(registers.core[BTV] | t.class as u32 * 32);
 }
