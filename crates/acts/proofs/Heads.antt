@@ -10,7 +10,7 @@ use Rattle.memory.specs.Memory.{Memory}
 use Rattle.memory.specs.Word.{word_at}
 use Rattle.fields.specs.Link.{link_of}
 use Rattle.areas.specs.Place.{place_of}
-use Rattle.registers.specs.Registers.{registers, pcxi}
+use Rattle.registers.specs.Registers.{pcxi, with_cores}
 use Rattle.registers.specs.declared.Registers.{Registers}
 use Rattle.contexts.specs.Save.{Saving, room_of, take_of, foreseen_of, saving, saved_by, save_at_of, save_by, save_of}
 use Rattle.contexts.specs.Restore.{Returning, loaded_of, returning, return_by, return_of}
@@ -46,7 +46,7 @@ module _ (half : Half) (words core : List ℕ) (m : Memory) (k : ℕ) (n2 : k �
       by (Ok at) = at_other at
 
 -- after a save that came to `s`
-pub save_steady : (half : Half) (words : List ℕ) {core : List ℕ} {r : Registers} (m : Memory) {n : Memory} {s : Result Saved Stop} → saving s core n ≡ save_of half words r.core m → Steady r (registers r.d r.a core)
+pub save_steady : (half : Half) (words : List ℕ) {core : List ℕ} {r : Registers} (m : Memory) {n : Memory} {s : Result Saved Stop} → saving s core n ≡ save_of half words r.core m → Steady r (with_cores core r)
 save_steady half words {core} {r} m {n} {s} e = record { same = rw (ap (λ (v : Saving). v.core) e, save_other half words r.core m 5 (λ e. omega arith) (λ e. omega arith), save_other half words r.core m 9 (λ e. omega arith) (λ e. omega arith), save_other half words r.core m 1 (λ e. omega arith) (λ e. omega arith)) refl }
 
 -- ---- a return

@@ -5,18 +5,18 @@ use native.Mathlib.Nat.{lt_of_not-le}
 use native.Mathlib.Decide.{dec_le}
 use native.Mathlib.Omega.{arith}
 use mathlib.Core.Path.{◌≡◌, refl, ap, sym, ◌∙◌}
-use mathlib.Core.Bool.{true, false}
+use mathlib.Core.Bool.{Bool, true, false, ◌&&◌}
 use mathlib.Core.List.{List}
 use lib.Dec.{eqb}
 use lib.ListN.{length, get_or, set, length-set, get_or-eq_default}
 use lib.Seq.{get_or-set_same, get_or-set_other}
-use borrow.Author.Tests.{eq-eqb, ne_eqb, eqb-true}
+use borrow.Author.Tests.{eq-eqb, eqb-true}
 use Rattle.words.proofs.Truth.{both_true}
 use Rattle.fields.specs.Psw.{psw_prs}
 use Rattle.memory.specs.Memory.{Memory}
 use Rattle.registers.specs.Registers.{registers, psw, with_core, with_pc, with_psw}
 use Rattle.registers.specs.declared.Registers.{Registers}
-use Rattle.acts.specs.Acts.{control_of, is_same, done_of, ended, did, doing}
+use Rattle.acts.specs.Acts.{control_of, is_same, done_by, done_of, ended, did, doing}
 use Rattle.acts.specs.declared.Control.{Control}
 use Rattle.acts.specs.declared.How.TheVariants as how
 
@@ -28,22 +28,14 @@ pub steady_then : {r q s : Registers} → Steady r q → Steady q s → Steady r
 steady_then x y = record { same = y.same ∙ x.same }
 
 -- ---- the test
-module _ (x y : Control) where
-  pub icr_differs : (x.icr ≡ y.icr → ⊥) → is_same x y ≡ false
-  unfolding is_same
-  icr_differs e = rw (ne_eqb _ _ e) refl
+-- the fields' comparison is the test
+pub told_same : (x y : Control) (t : Bool) → t ≡ (eqb x.icr y.icr && (eqb x.syscon y.syscon && eqb x.prs y.prs)) → done_by t ≡ done_by (is_same x y)
+unfolding is_same
+told_same x y t e = ap done_by e
 
-  pub syscon_differs : x.icr ≡ y.icr → (x.syscon ≡ y.syscon → ⊥) → is_same x y ≡ false
-  unfolding is_same
-  syscon_differs e f = rw (eq-eqb _ _ e, ne_eqb _ _ f) refl
-
-  pub prs_differs : x.icr ≡ y.icr → x.syscon ≡ y.syscon → (x.prs ≡ y.prs → ⊥) → is_same x y ≡ false
-  unfolding is_same
-  prs_differs e f g = rw (eq-eqb _ _ e, eq-eqb _ _ f, ne_eqb _ _ g) refl
-
-  pub all_same : x.icr ≡ y.icr → x.syscon ≡ y.syscon → x.prs ≡ y.prs → is_same x y ≡ true
-  unfolding is_same
-  all_same e f g = rw (eq-eqb _ _ e, eq-eqb _ _ f, eq-eqb _ _ g) refl
+all_same : (x : Control) → is_same x x ≡ true
+unfolding is_same
+all_same x = rw (eq-eqb x.icr x.icr refl, eq-eqb x.syscon x.syscon refl, eq-eqb x.prs x.prs refl) refl
 
 pub same_control : (x y : Control) → is_same x y ≡ true → y ≡ x
 unfolding is_same
@@ -56,7 +48,7 @@ same_control x y e =
 module _ {r q : Registers} (s : Steady r q) where
   done_is : how.Done ≡ done_of r q
   unfolding done_of
-  done_is = rw (s.same, all_same (control_of r.core) (control_of r.core) refl refl refl) refl
+  done_is = rw (s.same, all_same (control_of r.core)) refl
 
   pub done_ended : ended how.Done q ≡ ended (done_of r q) q
   done_ended = ap (λ h. ended h q) done_is

@@ -4,10 +4,9 @@ use Rattle.fields.specs.Psw.{psw_prs}
 use Rattle.memory.specs.Memory.{Memory, memory}
 use Rattle.memory.specs.Word.{put_byte, put_half, put_word}
 use Rattle.registers.specs.Core.{PSW, ICR, SYSCON}
-use Rattle.registers.specs.Registers.{registers}
+use Rattle.registers.specs.Registers.{with_cores}
 use Rattle.registers.specs.declared.Registers.{Registers}
 use Rattle.events.specs.declared.trap.Trap.{Trap}
-use Rattle.events.specs.declared.event.Stop.TheVariants as stop
 use Rattle.operations.specs.declared.Store.{Store}
 use Rattle.operations.specs.declared.Store.TheVariants.{StB, StH, StW, StA}
 use Rattle.contexts.specs.Context.{context_of}
@@ -20,7 +19,6 @@ use Rattle.acts.specs.declared.How.TheVariants as how
 use Rattle.contexts.specs.declared.save.Saved.{Saved}
 use Rattle.events.specs.declared.event.Stop.{Stop}
 use Rattle.contexts.specs.declared.save.Saved.TheVariants.{Depleted, Done}
-use Rattle.events.specs.declared.event.Stop.TheVariants.{Outside}
 
 -- the effect of an instruction that leaves memory alone: it sets registers, or it takes a trap and leaves them too
 pub data Effect : Type 0 where
@@ -92,12 +90,12 @@ abbrev pub doing : Registers → Registers → Memory → Did
 doing r q m = did (done_of r q) q m
 
 abbrev pub save_did : (Registers → Registers) → Registers → Result Saved Stop → List ℕ → Memory → Did
-save_did then r (Err s) core m = did (how.Stopped s) (registers r.d r.a core) m
-save_did then r (Ok Done) core m = doing r (then (registers r.d r.a core)) m
-save_did then r (Ok Depleted) core m = did how.Depleted (then (registers r.d r.a core)) m
+save_did then r (Err s) core m = did (how.Stopped s) (with_cores core r) m
+save_did then r (Ok Done) core m = doing r (then (with_cores core r)) m
+save_did then r (Ok Depleted) core m = did how.Depleted (then (with_cores core r)) m
 
 abbrev pub return_did : (Registers → Registers) → Registers → Result ⊤ Stop → Registers → Memory → Did
-return_did then r (Err Outside) q m = did (how.Stopped stop.Outside) q m
+return_did then r (Err s) q m = did (how.Stopped s) q m
 return_did then r (Ok _) q m = doing r (then q) m
 
 -- an act performed, up to the entry of a trap that follows it. This alone changes memory. The heads are changed by a save and a return, and by an MTCR to FCX or PCXI: an act that ends with them set

@@ -38,7 +38,7 @@ pub fn passed_on(h: How) -> How
 }
 
 // What interrupts are taken by, and what fetches are checked by: ICR; SYSCON and PSW.PRS.
-#[derive(Clone, Copy)]
+#[derive(Clone, Copy, PartialEq, Eq)]
 pub struct Control {
     pub icr: u32,
     pub syscon: u32,
@@ -60,14 +60,9 @@ pub fn settled(before: Control, core: &[u32; CORE]) -> How
     ensures { result ≡ done_by (is_same before (control_of core.now)) }
 {
     let now = control_of(core);
-    if before.icr != now.icr {
-        return How::Switched;
+    if before == now {
+        How::Done
+    } else {
+        How::Switched
     }
-    if before.syscon != now.syscon {
-        return How::Switched;
-    }
-    if before.prs != now.prs {
-        return How::Switched;
-    }
-    How::Done
 }
