@@ -34,7 +34,7 @@ table_size img t =
 
 -- ---- the cases of a turn
 module _ (n : ℕ) (img : List ℕ) (at k : ℕ) where
-  pub records_end : records_from 0 img at k ≡ (Ok tt)
+  pub records_end : records_from 0 img at k ≡ Ok tt
   unfolding records_from
   records_end = refl
 
@@ -76,11 +76,11 @@ module _ (img : List ℕ) (g : TableRight img) where
 
 -- ---- the whole image
 module _ (img : List ℕ) where
-  pub image_table : (p : ℕ) → table_of img ≡ Err (Err (Table p)) → image_of img ≡ Err (Table p)
+  pub image_table : (f : ImageFault) → table_of img ≡ Err f → image_of img ≡ Err f
   unfolding image_of
-  image_table p e = rw e
+  image_table f e = rw e
 
-  pub image_records : table_of img ≡ (Ok tt) → image_of img ≡ records_from (total_of img) img (bodies_of img) 0
+  pub image_records : table_of img ≡ Ok tt → image_of img ≡ records_from (total_of img) img (bodies_of img) 0
   unfolding image_of
   image_records e = rw e
 
@@ -93,10 +93,11 @@ module _ (img : List ℕ) where
 
       go : (t : Result ⊤ ImageFault) → table_of img ≡ t → TableSays img t → ImageSays img (image_of img)
       go (Ok _) e r = rw (image_records e) (rw first at (records_say img r (total_of img) 0 (omega arith) (λ j h. absurd (omega arith))))
-      go (Err (Err (Table p))) e r = rw (image_table p e) r
+      go (Err (Table p)) e r = rw (image_table (Table p) e) r
+      go (Err (Record k)) e r = absurd r
 
   none : {p : ℕ} → TableRight img → TableFault img p → ⊥
-  none {p} r s = let z = table_only img (Ok tt) (Err (Err (Table p))) r s in let q : ◌≡◌ {A = ℕ} 0 1 = cc in omega arith
+  none {p} r s = let z = table_only img (Ok tt) (Err (Table p)) r s in cc
 
   -- and they say nothing else
   pub image_only : (x y : Result ⊤ ImageFault) → ImageSays img x → ImageSays img y → x ≡ y
@@ -104,11 +105,11 @@ module _ (img : List ℕ) where
   image_only (Ok _) (Err (Table p)) r s = absurd (none r.table s)
   image_only (Ok _) (Err (Record k)) r s = absurd (s.fault (r.records k s.inside))
   image_only (Err (Table p)) (Ok _) s r = absurd (none r.table s)
-  image_only (Err (Table p)) (Err (Table q)) r s = let z = table_only img (Err (Err (Table p))) (Err (Err (Table q))) r s in let w : p ≡ q = cc in ap Err (Table w)
+  image_only (Err (Table p)) (Err (Table q)) r s = table_only img (Err (Table p)) (Err (Table q)) r s
   image_only (Err (Table p)) (Err (Record k)) r s = absurd (none s.table r)
   image_only (Err (Record k)) (Ok _) s r = absurd (s.fault (r.records k s.inside))
   image_only (Err (Record k)) (Err (Table p)) s r = absurd (none s.table r)
-  image_only (Err (Record k)) (Err (Record j)) r s = ap Err (Record (go (dec_le k j) (dec_le j k)))
+  image_only (Err (Record k)) (Err (Record j)) r s = ap (λ (n : ℕ). Err (Record n)) (go (dec_le k j) (dec_le j k))
     where
       go : Dec (k ≤ j) → Dec (j ≤ k) → k ≡ j
       go (yes p) (yes q) = omega arith
@@ -130,12 +131,12 @@ module _ (img : List ℕ) (at k : ℕ) (is : at ≡ bodies_of img + 8 * k) where
   pub turn_fault : k < total_of img → record_at img at ≡ false → Err (Record k) ≡ records_from (total_of img - k) img at k
   turn_fault h t = let j : total_of img - k ≡ suc (total_of img - (k + 1)) = omega arith in rw j (sym (records_fault (total_of img - (k + 1)) img at k t))
 
-  pub turn_end : total_of img ≤ k → (Ok tt) ≡ records_from (total_of img - k) img at k
+  pub turn_end : total_of img ≤ k → Ok tt ≡ records_from (total_of img - k) img at k
   turn_end h = let j : total_of img - k ≡ 0 = omega arith in rw j (sym (records_end 0 img at k))
 
 -- ---- where a table holds
-pub right_of : (img : List ℕ) → table_of img ≡ (Ok tt) → TableRight img
+pub right_of : (img : List ℕ) → table_of img ≡ Ok tt → TableRight img
 right_of img e = subst (TableSays img) e (table_says img)
 
-pub sized : (img : List ℕ) → table_of img ≡ (Ok tt) → Sized img
+pub sized : (img : List ℕ) → table_of img ≡ Ok tt → Sized img
 sized img e = table_size img (right_of img e)

@@ -8,46 +8,45 @@ use Rattle.words.proofs.Truth.{never}
 use Rattle.memory.specs.Word.{word_at}
 use Rattle.operations.specs.Forms.{is_short, operation_number}
 use Rattle.image.specs.Table.{bodies_of}
-use Rattle.image.specs.Records.{record_holds, record_at, records_from, all_hold, total_of}
+use Rattle.image.specs.Records.{record_holds, record_at, records_from, total_of}
 use Rattle.image.specs.Marks.{long_from, long_only}
 use Rattle.image.proofs.Tests.{word_form, word_record, word_short}
 use Rattle.image.proofs.Images.{Sized, turn_on, turn_fault, turn_end}
 use Rattle.image.proofs.Long.{and_one, pass_first, pass_on, pass_end}
-use Rattle.std.specs.Prelude.{Err, Ok, Result, ⊤}
+use Rattle.std.specs.Prelude.{Err, Ok, Result, is_ok, ⊤}
 use Rattle.image.specs.declared.table.ImageFault.{ImageFault}
-use Rattle.image.specs.declared.table.ImageFault.TheVariants.{Record, Table}
+use Rattle.image.specs.declared.table.ImageFault.TheVariants.{Record}
 
 -- ---- whether they all hold
-pub held_is : (c : Result ⊤ ImageFault) → all_hold c ≡ true → c ≡ (Ok tt)
+pub held_is : (c : Result ⊤ ImageFault) → is_ok c ≡ true → c ≡ Ok tt
 held_is (Ok _) e = refl
-held_is (Err (Table p)) e = absurd (never (sym e))
-held_is (Err (Record k)) e = absurd (never (sym e))
+held_is (Err f) e = absurd (never (sym e))
 
-held_more : (n : ℕ) (img : List ℕ) (at k : ℕ) → all_hold (records_from (suc n) img at k) ≡ (record_at img at && all_hold (records_from n img (at + 8) (k + 1)))
+held_more : (n : ℕ) (img : List ℕ) (at k : ℕ) → is_ok (records_from (suc n) img at k) ≡ (record_at img at && is_ok (records_from n img (at + 8) (k + 1)))
 unfolding records_from
 held_more n img at k = by (record_at img at)
   where
-    by : (b : Bool) → all_hold (cond b (records_from n img (at + 8) (k + 1)) (Err (Record k))) ≡ (b && all_hold (records_from n img (at + 8) (k + 1)))
+    by : (b : Bool) → is_ok (cond b (records_from n img (at + 8) (k + 1)) (Err (Record k))) ≡ (b && is_ok (records_from n img (at + 8) (k + 1)))
     by true = refl
     by false = refl
 
 module _ (img : List ℕ) (hold : Bool) where
-  pub held_first : hold ≡ true → (hold && all_hold (records_from (total_of img - 0) img (bodies_of img + 8 * 0) 0)) ≡ all_hold (records_from (total_of img) img (bodies_of img) 0)
+  pub held_first : hold ≡ true → (hold && is_ok (records_from (total_of img - 0) img (bodies_of img + 8 * 0) 0)) ≡ is_ok (records_from (total_of img) img (bodies_of img) 0)
   held_first e =
       let z : total_of img - 0 ≡ total_of img = omega arith in
       let y : bodies_of img + 8 * 0 ≡ bodies_of img = omega arith in
       rw (e, z, y)
 
   pub held_on : (k : ℕ) → k < total_of img
-      → (hold && record_at img (bodies_of img + 8 * k) && all_hold (records_from (total_of img - (k + 1)) img (bodies_of img + 8 * (k + 1)) (k + 1)))
-      ≡ (hold && all_hold (records_from (total_of img - k) img (bodies_of img + 8 * k) k))
+      → (hold && record_at img (bodies_of img + 8 * k) && is_ok (records_from (total_of img - (k + 1)) img (bodies_of img + 8 * (k + 1)) (k + 1)))
+      ≡ (hold && is_ok (records_from (total_of img - k) img (bodies_of img + 8 * k) k))
   held_on k h =
       let z : total_of img - k ≡ suc (total_of img - (k + 1)) = omega arith in
       let y : bodies_of img + 8 * (k + 1) ≡ bodies_of img + 8 * k + 8 = omega arith in
       rw (z, y, held_more (total_of img - (k + 1)) img (bodies_of img + 8 * k) k)
-      (and_assoc hold (record_at img (bodies_of img + 8 * k)) (all_hold (records_from (total_of img - (k + 1)) img (bodies_of img + 8 * k + 8) (k + 1))))
+      (and_assoc hold (record_at img (bodies_of img + 8 * k)) (is_ok (records_from (total_of img - (k + 1)) img (bodies_of img + 8 * k + 8) (k + 1))))
 
-  pub held_end : (k : ℕ) → total_of img ≤ k → (hold && all_hold (records_from (total_of img - k) img (bodies_of img + 8 * k) k)) ≡ hold
+  pub held_end : (k : ℕ) → total_of img ≤ k → (hold && is_ok (records_from (total_of img - k) img (bodies_of img + 8 * k) k)) ≡ hold
   held_end k h = rw (← turn_end img (bodies_of img + 8 * k) k refl h) (and_one hold)
 
 -- ---- one by one
@@ -71,7 +70,7 @@ module _ (img : List ℕ) (s : Sized img) where
     inside : at < length img → c.index < total_of img
     inside h = let l = s.length_is in omega (arith, c.at_is)
 
-    pub scanned_end : length img ≤ at → ((Ok tt) ≡ records_from (total_of img) img (bodies_of img) 0) × (long ≡ long_only img)
+    pub scanned_end : length img ≤ at → (Ok tt ≡ records_from (total_of img) img (bodies_of img) 0) × (long ≡ long_only img)
     scanned_end h =
         let k : total_of img ≤ c.index = (let l = s.length_is in omega (arith, c.at_is)) in
         (turn_end img at c.index c.at_is k ∙ c.check, sym (pass_end img long c.index k) ∙ c.long_is)

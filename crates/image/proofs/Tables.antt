@@ -10,12 +10,12 @@ use Rattle.words.proofs.Truth.{never, either_false}
 use Rattle.words.proofs.Answers.{exactly}
 use Rattle.image.proofs.Tests.{entry_right, right_entry}
 use Rattle.std.specs.Prelude.{Err, Ok, Result, ⊤}
-use Rattle.image.specs.declared.table.ImageFault.TheVariants.{Table}
+use Rattle.image.specs.declared.table.ImageFault.TheVariants.{Record, Table}
 use Rattle.image.specs.declared.table.ImageFault.{ImageFault}
 
 -- ---- the cases of a turn
 module _ (k : ℕ) (img : List ℕ) (i start floor : ℕ) where
-  pub entries_end : start ≡ length img → entries_from 0 img i start floor ≡ (Ok tt)
+  pub entries_end : start ≡ length img → entries_from 0 img i start floor ≡ Ok tt
   unfolding entries_from
   entries_end e = rw (eq-eqb start (length img) e)
 
@@ -42,7 +42,7 @@ module _ (n : ℕ) (img : List ℕ) (i start floor : ℕ) (e : Entry) (is : e �
   turn_fault h t = let j : n - i ≡ suc (n - (i + 1)) = omega arith in rw j (sym (entries_fault (n - (i + 1)) img i start floor (rw is at t)))
 
 module _ (n : ℕ) (img : List ℕ) (i start floor : ℕ) (h : i ≤ n) (k : n ≤ i) where
-  pub turn_end : start ≡ length img → (Ok tt) ≡ entries_from (n - i) img i start floor
+  pub turn_end : start ≡ length img → Ok tt ≡ entries_from (n - i) img i start floor
   turn_end e = let j : n - i ≡ 0 = omega arith in rw j (sym (entries_end 0 img i start floor e))
 
   pub turn_over : (start ≡ length img → ⊥) → Err (Table n) ≡ entries_from (n - i) img i start floor
@@ -138,8 +138,11 @@ module _ (img : List ℕ) where
   pub table_only : (x y : Result ⊤ ImageFault) → TableSays img x → TableSays img y → x ≡ y
   table_only (Ok _) (Ok _) r s = refl
   table_only (Ok _) (Err (Table p)) r s = absurd (clash r s)
+  table_only (Ok _) (Err (Record k)) r s = absurd s
+  table_only (Err (Record k)) y r s = absurd r
   table_only (Err (Table p)) (Ok _) s r = absurd (clash r s)
-  table_only (Err (Table p)) (Err (Table q)) r s = ap Err (Table (same r s))
+  table_only (Err (Table p)) (Err (Record k)) r s = absurd s
+  table_only (Err (Table p)) (Err (Table q)) r s = ap (λ (n : ℕ). Err (Table n)) (same r s)
     where
       ordered : (i j : ℕ) → ((x : ℕ) → x < i → EntryAt img x) → (EntryAt img j → ⊥) → i ≤ j
       ordered i j b d = go (dec_le i j)

@@ -1,5 +1,5 @@
 -- What is looked up of an image beforehand, so that a fetch need not walk a whole body: whether it has short forms, and marks. The fetch's definition knows none of it.
-use Rattle.std.specs.Prelude.{◌≡◌, ℕ, zero, suc, ◌+◌, ◌*◌, ◌/◌, ◌%◌, ◌^◌, ◌<◌, Bool, true, false, cond, not, ◌&&◌, List, length, ◌==◌, nat_le, nat_lt, slice_index, slice_index_or, slice_set, Err, Ok, Result, ⊤}
+use Rattle.std.specs.Prelude.{◌≡◌, ℕ, zero, suc, ◌+◌, ◌*◌, ◌/◌, ◌%◌, ◌^◌, ◌<◌, Bool, true, cond, not, ◌&&◌, List, length, ◌==◌, nat_le, nat_lt, slice_index, slice_index_or, slice_set}
 use Rattle.operations.specs.Forms.{is_short}
 use Rattle.image.specs.Table.{bodies_of, entry_at}
 use Rattle.image.specs.Records.{total_of}
@@ -7,8 +7,6 @@ use Rattle.image.specs.Rest.{far_of, record_address, Begins}
 use Rattle.image.specs.declared.table.Entry.{Entry}
 use Rattle.image.specs.declared.fetch.Start.{Start}
 use Rattle.image.specs.declared.marks.Guide.{Guide}
-use Rattle.image.specs.declared.table.ImageFault.{ImageFault}
-use Rattle.image.specs.declared.table.ImageFault.TheVariants.{Record, Table}
 
 -- n records from byte `at` on have no short form among them
 unfoldable pub long_from : ℕ → List ℕ → ℕ → Bool
@@ -18,12 +16,6 @@ long_from (suc n) img at = not (is_short (slice_index img at)) && long_from n im
 -- an image without short forms
 unfoldable pub long_only : List ℕ → Bool
 long_only img = long_from (total_of img) img (bodies_of img)
-
--- asked of an image that holds alone
-abbrev pub long_in : List ℕ → Result ⊤ ImageFault → Bool
-long_in img (Ok _) = long_only img
-long_in img (Err (Table p)) = false
-long_in img (Err (Record k)) = false
 
 -- a mark names an entry, counted from 1, and the index and address of a record of its body
 abbrev pub mark_entry : ℕ → ℕ

@@ -1,10 +1,10 @@
 -- The records: 8 bytes each.
-use Rattle.std.specs.Prelude.{◌≡◌, ℕ, zero, suc, ◌+◌, ◌-◌, ◌/◌, Bool, true, false, cond, not, ◌&&◌, ◌||◌, List, length, nat_le, nat_lt, slice_index, Err, Ok, Result, ⊤}
+use Rattle.std.specs.Prelude.{◌≡◌, ℕ, zero, suc, ◌+◌, ◌-◌, ◌/◌, Bool, cond, not, ◌&&◌, ◌||◌, List, length, nat_le, nat_lt, slice_index, Err, Ok, Result, ⊤}
 use Rattle.operations.specs.Operations.{operations, operation_of, compares}
 use Rattle.operations.specs.Forms.{operation_number}
 use Rattle.image.specs.Table.{bodies_of, table_of}
 use Rattle.image.specs.declared.table.ImageFault.{ImageFault}
-use Rattle.image.specs.declared.table.ImageFault.TheVariants.{Record, Table}
+use Rattle.image.specs.declared.table.ImageFault.TheVariants.{Record}
 
 -- the operation is one of the table, c and a are 0 to 15, b is 0 to 16; JEQ to JGE.U refuse 16
 unfoldable pub record_holds : ℕ → ℕ → ℕ → ℕ → Bool
@@ -20,19 +20,13 @@ unfoldable pub records_from : ℕ → List ℕ → ℕ → ℕ → Result ⊤ Im
 records_from zero img at k = Ok tt
 records_from (suc n) img at k = cond (record_at img at) (records_from n img (at + 8) (k + 1)) (Err (Record k))
 
--- whether every record holds
-abbrev pub all_hold : Result ⊤ ImageFault → Bool
-all_hold (Ok _) = true
-all_hold (Err (Table p)) = false
-all_hold (Err (Record k)) = false
-
 -- how many records the bodies have: they fill the image after the table
 abbrev pub total_of : List ℕ → ℕ
 total_of img = (length img - bodies_of img) / 8
 
 abbrev pub image_by : List ℕ → Result ⊤ ImageFault → Result ⊤ ImageFault
-image_by img (Err (Err (Table p))) = Err (Table p)
 image_by img (Ok _) = records_from (total_of img) img (bodies_of img) 0
+image_by img (Err f) = Err f
 
 -- rule 2, then rule 3
 unfoldable pub image_of : List ℕ → Result ⊤ ImageFault
@@ -40,4 +34,9 @@ image_of img = image_by img (table_of img)
 
 -- rules 2 and 3 hold
 abbrev pub ImageHolds : List ℕ → Type 0
-ImageHolds img = image_of img ≡ (Ok tt)
+ImageHolds img = image_of img ≡ Ok tt
+
+-- the answer of a check that also tells whether no record is a short form, without that
+abbrev pub without_long : {E : Type 0} → Result Bool E → Result ⊤ E
+without_long (Ok long) = Ok tt
+without_long (Err f) = Err f

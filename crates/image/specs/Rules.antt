@@ -57,6 +57,7 @@ pub data TableFault (img : List ℕ) : ℕ → Type 0 where
 abbrev pub TableSays : List ℕ → Result ⊤ ImageFault → Type 0
 TableSays img (Ok _) = TableRight img
 TableSays img (Err (Table p)) = TableFault img p
+TableSays img (Err (Record k)) = ⊥
 
 -- a record's operation by its number, and its other bytes, are in their bounds; the operations that compare two registers refuse b = 16
 pub record RecordRight (op c a b : ℕ) : Type 0 where

@@ -26,12 +26,6 @@ pub struct Instruction {
     pub next: u32,
 }
 
-#[derive(Clone, Copy)]
-pub enum Fetched {
-    Found(Instruction),
-    Nothing,
-}
-
 // The records of a body from one on: how many they are, and the byte of the image at which the first one stands.
 #[derive(Clone, Copy)]
 pub struct Rest {

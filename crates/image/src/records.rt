@@ -1,24 +1,16 @@
 // The records: 8 bytes each, operation, c, a, b and the immediate word.
 
-ghost use Rattle.std.specs.Prelude.{◌≡◌, ◌+◌, ◌*◌, ◌/◌, ◌%◌, ◌<◌, not};
+ghost use Rattle.std.specs.Prelude.{◌≡◌, ◌+◌, ◌*◌, ◌/◌, ◌%◌, ◌<◌, not, is_ok, IfOk};
 ghost use Rattle.operations.specs.Forms.{is_short, operation_number};
 ghost use Rattle.image.specs.Table.{bodies_of, table_of};
-ghost use Rattle.image.specs.Records.{record_holds, records_from, all_hold, total_of, image_of};
+ghost use Rattle.image.specs.Records.{record_holds, records_from, total_of, image_of, without_long};
 ghost use Rattle.image.specs.Rules.{ImageSays};
-ghost use Rattle.image.specs.Marks.{long_only, long_in};
+ghost use Rattle.image.specs.Marks.{long_only};
 ghost use Rattle.words.specs.Exactly.{Exactly};
 
-use crate::table::{TableCheck, check_table};
+use crate::table::{ImageFault, check_table};
 use memory::word_at;
 use operations::{is_compare, is_operation};
-
-// Rules 2 and 3: the entry at fault, or the record at fault by its index over all bodies.
-#[derive(Clone, Copy)]
-pub enum ImageCheck {
-    Holds,
-    Table(u32),
-    Record(u32),
-}
 
 // Whether the record with that first word is in its bounds: the operation by its number, c, a and b. Where b is 16 the operand is the immediate, which JEQ to JGE.U do not take; below that only the operation is left to try.
 fn word_fits(w: u32) -> bool
@@ -61,8 +53,8 @@ fn word_long(w: u32) -> bool
 
 // One pass over all records, several at a time.
 fn scan_all(image: &[u8]) -> Scan
-    requires { table_of image.now ≡ TableCheck.Holds }
-    ensures { (result.hold ≡ all_hold (records_from (total_of image.now) image.now (bodies_of image.now) 0)) × (result.long ≡ long_only image.now) }
+    requires { table_of image.now ≡ Ok tt }
+    ensures { (result.hold ≡ is_ok (records_from (total_of image.now) image.now (bodies_of image.now) 0)) × (result.long ≡ long_only image.now) }
 {
     let n = word_at(image, 0);
     let from = 4 + 12 * n as usize;
@@ -82,17 +74,10 @@ fn scan_all(image: &[u8]) -> Scan
     }
 }
 
-// The rules' answer, and whether the image has no short form.
-#[derive(Clone, Copy)]
-pub struct ImageScan {
-    pub check: Result<(), ImageFault>,
-    pub long: bool,
-}
-
-// The records, one by one, to the first at fault. Counting the short ones costs less than a flag.
-fn scan_each(image: &[u8]) -> ImageScan
-    requires { table_of image.now ≡ TableCheck.Holds }
-    ensures { (result.check ≡ records_from (total_of image.now) image.now (bodies_of image.now) 0) × (result.long ≡ long_in image.now result.check) }
+// The records, one by one, to the first at fault; where all hold, whether none is a short form. Counting the short ones costs less than a flag.
+fn scan_each(image: &[u8]) -> Result<bool, ImageFault>
+    requires { table_of image.now ≡ Ok tt }
+    ensures { (without_long result ≡ records_from (total_of image.now) image.now (bodies_of image.now) 0) × IfOk result (λ long. long ≡ long_only image.now) }
 {
     let n = word_at(image, 0);
     let from = 4 + 12 * n as usize;
@@ -101,53 +86,40 @@ fn scan_each(image: &[u8]) -> ImageScan
     while at < image.len() {
         let w = word_at(image, at);
         if !word_fits(w) {
-            return ImageScan {
-                check: Err(ImageFault::Record(((at - from) / 8) as u32)),
-                long: false,
-            };
+            return Err(ImageFault::Record(((at - from) / 8) as u32));
         }
         short += w / 0x80 % 2;
         at += 8;
     }
-    ImageScan {
-        check: Ok(()),
-        long: short == 0,
-    }
+    Ok(short == 0)
 }
 
 // The records, after the table. Those of a large image are tried several at a time, and one by one only where some record does not hold.
-fn scan_records(image: &[u8]) -> ImageScan
-    requires { table_of image.now ≡ TableCheck.Holds }
-    ensures { (result.check ≡ records_from (total_of image.now) image.now (bodies_of image.now) 0) × (result.long ≡ long_in image.now result.check) }
+fn scan_records(image: &[u8]) -> Result<bool, ImageFault>
+    requires { table_of image.now ≡ Ok tt }
+    ensures { (without_long result ≡ records_from (total_of image.now) image.now (bodies_of image.now) 0) × IfOk result (λ long. long ≡ long_only image.now) }
 {
     if image.len() < 0x200 {
         return scan_each(image);
     }
     let s = scan_all(image);
     if s.hold {
-        return ImageScan {
-            check: Ok(()),
-            long: s.long,
-        };
+        return Ok(s.long);
     }
     scan_each(image)
 }
 
-// The image: its table, then each record.
-pub fn scan_image(image: &[u8]) -> ImageScan
-    ensures { (result.check ≡ image_of image.now) × Exactly (ImageSays image.now) result.check × (result.long ≡ long_in image.now result.check) }
+// The image: its table, then each record; where rules 2 and 3 hold, whether it has no short form.
+pub fn scan_image(image: &[u8]) -> Result<bool, ImageFault>
+    ensures { (without_long result ≡ image_of image.now) × Exactly (ImageSays image.now) (without_long result) × IfOk result (λ long. long ≡ long_only image.now) }
 {
-    match check_table(image) {
-        Err(ImageFault::Table(p)) => ImageScan {
-            check: Err(ImageFault::Table(p)),
-            long: false,
-        },
-        Ok(()) => scan_records(image),
-    }
+    check_table(image)?;
+    scan_records(image)
 }
 
 pub fn check_image(image: &[u8]) -> Result<(), ImageFault>
     ensures { (result ≡ image_of image.now) × Exactly (ImageSays image.now) result }
 {
-    scan_image(image).check
+    scan_image(image)?;
+    Ok(())
 }

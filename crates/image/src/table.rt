@@ -15,11 +15,11 @@ pub struct Entry {
     pub offset: u32,
 }
 
-// Rule 2, with the entry at fault: entries count from 1, and 0 is the count or a table cut short.
+// Why an image is refused: rule 2 with the entry at fault (they count from 1; 0 is the count, or a table cut short), rule 3 with the index of the record at fault over all bodies.
 #[derive(Clone, Copy)]
-pub enum TableCheck {
-    Holds,
-    Fault(u32),
+pub enum ImageFault {
+    Table(u32),
+    Record(u32),
 }
 
 // The entry at place i, from 0.

@@ -41,7 +41,7 @@ returns-then-not-word_fits c =
     let s = sized img c.requires in
     let l = c.loop-at in
     let h = c.word_fits.ensures ∙ word_record img l.at c.word_at-w.result (λ j. (c.shared_slice_known-1.given j).fits) c.word_at-w.ensures in
-    (scanned_fault img s l.at (eqb l.short 0) l.invariant.1 c.loop-at-test.true (sym h ∙ c.if-not-word_fits.true) _ l.invariant.0, refl)
+    (scanned_fault img s l.at (eqb l.short 0) l.invariant.1 c.loop-at-test.true (sym h ∙ c.if-not-word_fits.true) _ l.invariant.0, tt)
 
 pub overflow_add-short : goal.overflow_add-short
 overflow_add-short c = let s = sized c.args.image.now c.requires in let l = c.loop-at.invariant in omega (arith, l.1.at_is, l.1.most, l.2, s.small)
