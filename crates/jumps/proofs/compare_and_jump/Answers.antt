@@ -4,4 +4,4 @@ use Rattle.jumps.proofs.compare_and_jump.Goals as goal
 
 pub returns : goal.returns
 unfolding compare_of
-returns c = rw (c.branch-core.ensures, c.condition-taken.ensures) (done_ended (steady_next _ _ _ _))
+returns c = rw (c.branch-registers.ensures, c.condition-taken.ensures) (done_ended (steady_next _ _ _ _))

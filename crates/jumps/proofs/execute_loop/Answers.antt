@@ -8,4 +8,4 @@ returns-then-guarded c = rw (← c.guarded.ensures, c.if-guarded.true)
 
 pub returns : goal.returns
 unfolding loop_of
-returns c = rw (← c.guarded.ensures, c.if-guarded.false, c.branch-core.ensures, c.equal.ensures, c.minus.ensures) (done_ended (steady_next _ _ _ _))
+returns c = rw (← c.guarded.ensures, c.if-guarded.false, c.branch-registers.ensures, c.equal.ensures, c.minus.ensures) (done_ended (steady_next _ _ _ _))
