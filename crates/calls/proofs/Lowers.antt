@@ -3,7 +3,7 @@
 use Prim.Native.Nat.{ℕ}
 use native.Mathlib.Omega.{arith}
 use mathlib.Core.Path.{◌≡◌, refl}
-use mathlib.Core.Bool.{Bool, true, false, cond}
+use mathlib.Core.Bool.{Bool, true, false, cond, not}
 use Rattle.fields.specs.Psw.{is_supervisor}
 use Rattle.registers.specs.Registers.{psw}
 use Rattle.registers.specs.declared.Registers.{Registers}
@@ -17,7 +17,7 @@ module _ (imm next : ℕ) (r : Registers) where
   unfolding lower_save_of forbids bisr_of
   lower_forbidden true e = by (is_supervisor (psw r)) e
     where
-      by : (t : Bool) → cond t false true ≡ true → cond t (Save Lower next (lower_then true imm next)) (Ends (Traps PRIV)) ≡ Ends (Traps PRIV)
+      by : (t : Bool) → not t ≡ true → cond t (Save Lower next (lower_then true imm next)) (Ends (Traps PRIV)) ≡ Ends (Traps PRIV)
       by true e = absurd (let z : ◌≡◌ {A = ℕ} 0 1 = cc in omega arith)
       by false e = refl
   lower_forbidden false e = absurd (let z : ◌≡◌ {A = ℕ} 0 1 = cc in omega arith)
@@ -26,7 +26,7 @@ module _ (imm next : ℕ) (r : Registers) where
   unfolding lower_save_of forbids bisr_of svlcx_of
   lower_saves true e = by (is_supervisor (psw r)) e
     where
-      by : (t : Bool) → cond t false true ≡ false → cond t (Save Lower next (lower_then true imm next)) (Ends (Traps PRIV)) ≡ Save Lower next (lower_then true imm next)
+      by : (t : Bool) → not t ≡ false → cond t (Save Lower next (lower_then true imm next)) (Ends (Traps PRIV)) ≡ Save Lower next (lower_then true imm next)
       by true e = refl
       by false e = absurd (let z : ◌≡◌ {A = ℕ} 0 1 = cc in omega arith)
   lower_saves false e = refl

@@ -1,5 +1,5 @@
 -- CALL and CALLI, SVLCX and BISR (002, 4.3, 8.6.1, 8.8.1 and chapter 9).
-use Rattle.std.specs.Prelude.{ℕ, Bool, true, false, cond}
+use Rattle.std.specs.Prelude.{ℕ, Bool, true, false, cond, not, ◌&&◌}
 use Rattle.fields.specs.Psw.{is_supervisor}
 use Rattle.fields.specs.Depth.{overflows_up, called_of}
 use Rattle.fields.specs.Icr.{icr_of}
@@ -40,4 +40,4 @@ lower_then false imm next r = with_pc next r
 
 -- BISR needs Supervisor
 unfoldable pub forbids : Bool → ℕ → Bool
-forbids bisr psw = cond bisr (cond (is_supervisor psw) false true) false
+forbids bisr psw = bisr && not (is_supervisor psw)

@@ -1,9 +1,8 @@
 // CALL to SYSCALL.
 
-ghost use Rattle.std.specs.Prelude.{◌≡◌, true, false, get_or};
+ghost use Rattle.std.specs.Prelude.{◌≡◌, true, false};
 ghost use Rattle.memory.specs.Memory.{lent};
-ghost use Rattle.registers.specs.Registers.{registers, plus_of};
-ghost use Rattle.registers.specs.Core.{PC};
+ghost use Rattle.registers.specs.Registers.{A, pc, plus_of};
 ghost use Rattle.image.specs.Fetch.{FieldsHold};
 ghost use Rattle.acts.specs.Acts.{did, perform_of};
 ghost use Rattle.calls.specs.Instructions.{context_op};
@@ -15,27 +14,24 @@ use events::trap::system_call;
 use image::fetch::Instruction;
 use memory::address::Address;
 use operations::Context;
-use registers::{CORE, PC, Registers, plus};
+use registers::{PC, Registers, plus};
 
 // Where a call goes: CALLI to A[a] as before the step, CALL to PC plus immediate.
-fn target(a: &[u32; 16], core: &[u32; CORE], op: Context, i: Instruction) -> u32
+fn target(registers: &Registers, op: Context, i: Instruction) -> u32
     requires { FieldsHold i }
-    ensures { (op ≡ Context.Calli → result ≡ get_or a.now i.a 0) × ((op ≡ Context.Calli → ⊥) → result ≡ plus_of (get_or core.now PC 0) i.imm) }
+    ensures { (op ≡ Context.Calli → result ≡ A registers.now i.a) × ((op ≡ Context.Calli → ⊥) → result ≡ plus_of (pc registers.now) i.imm) }
 {
     let x = i.a;
-    let Context::Calli = op else {
-        return plus(core[PC], i.imm);
-    };
-    a[x]
+    match op {
+        Context::Calli => registers.a[x],
+        _ => plus(registers.core[PC], i.imm),
+    }
 }
 
 fn is_bisr(op: Context) -> bool
     ensures { (op ≡ Context.Bisr → result ≡ true) × ((op ≡ Context.Bisr → ⊥) → result ≡ false) }
 {
-    let Context::Bisr = op else {
-        return false;
-    };
-    true
+    matches!(op, Context::Bisr)
 }
 
 // CALL and CALLI have one call between them, and so have SVLCX and BISR: a function with one caller is compiled into it.
@@ -53,7 +49,7 @@ pub fn execute_context(
 {
     match op {
         Context::Call | Context::Calli => {
-            let to = target(a, &registers.core, op, i);
+            let to = target(registers, op, i);
             passed_on(call(base, window, base2, window2, registers, to, i.next))
         }
         Context::Ret => ret(base, window, base2, window2, registers),

@@ -2,27 +2,18 @@
 
 ghost use Rattle.std.specs.Prelude.{◌≡◌};
 ghost use Rattle.memory.specs.Memory.{lent};
-ghost use Rattle.registers.specs.Registers.{registers};
 ghost use Rattle.acts.specs.Acts.{did, perform_of};
 ghost use Rattle.calls.specs.Returns.{is_of, previous_of, ret_of, rfe_of, rslcx_of};
 
 use acts::{How, control_of, settled};
 use contexts::context::Half;
-use contexts::restore::{Returned, restore};
-use events::event::Stop;
+use contexts::restore::restore;
 use events::trap::{CDU, CSU, CTYP, NEST, Trap};
 use fields::depth::{in_call, underflows};
 use fields::link::link_of;
 use fields::pcxi;
 use memory::address::Address;
 use registers::{ICR, PC, PCXI, PSW, Registers, new_pc};
-
-// Whether there is a context of that half to return to.
-#[derive(Clone, Copy)]
-pub enum Previous {
-    There,
-    Traps(Trap),
-}
 
 // Whether PCXI.UL is that of the half.
 fn is_of(half: Half, word: u32) -> bool
@@ -34,6 +25,7 @@ fn is_of(half: Half, word: u32) -> bool
     }
 }
 
+// Whether there is a context of that half to return to, or the trap that a return takes.
 fn previous_context(word: u32, half: Half) -> Result<(), Trap>
     ensures { result ≡ previous_of half word }
 {
@@ -59,18 +51,16 @@ pub fn ret(
     if underflows(registers.core[PSW]) {
         return How::Trap(CDU);
     }
-    match previous_context(registers.core[PCXI], Half::Upper) {
-        Err(t) => How::Trap(t),
+    if let Err(t) = previous_context(registers.core[PCXI], Half::Upper) {
+        return How::Trap(t);
+    }
+    let to = new_pc(registers.a[11]);
+    let before = control_of(&registers.core);
+    match restore(base, window, base2, window2, registers, Half::Upper) {
+        Err(s) => How::Stopped(s),
         Ok(()) => {
-            let to = new_pc(registers.a[11]);
-            let before = control_of(&registers.core);
-            match restore(base, window, base2, window2, registers, Half::Upper) {
-                Err(Stop::Outside) => How::Stopped(Stop::Outside),
-                Ok(()) => {
-                    registers.core[PC] = to;
-                    settled(before, &registers.core)
-                }
-            }
+            registers.core[PC] = to;
+            settled(before, &registers.core)
         }
     }
 }
@@ -84,27 +74,25 @@ pub fn rfe(
 ) -> How
     ensures { did result registers.new (lent base window.new base2 window2.new) ≡ perform_of (rfe_of registers.old) registers.old (lent base window.old base2 window2.old) }
 {
-    match previous_context(registers.core[PCXI], Half::Upper) {
-        Err(t) => How::Trap(t),
+    if let Err(t) = previous_context(registers.core[PCXI], Half::Upper) {
+        return How::Trap(t);
+    }
+    if in_call(registers.core[PSW]) {
+        return How::Trap(NEST);
+    }
+    let to = new_pc(registers.a[11]);
+    let icr = fields::icr::written(
+        registers.core[ICR],
+        pcxi::interrupts(registers.core[PCXI]),
+        pcxi::priority(registers.core[PCXI]),
+    );
+    let before = control_of(&registers.core);
+    match restore(base, window, base2, window2, registers, Half::Upper) {
+        Err(s) => How::Stopped(s),
         Ok(()) => {
-            if in_call(registers.core[PSW]) {
-                return How::Trap(NEST);
-            }
-            let to = new_pc(registers.a[11]);
-            let icr = fields::icr::written(
-                registers.core[ICR],
-                pcxi::interrupts(registers.core[PCXI]),
-                pcxi::priority(registers.core[PCXI]),
-            );
-            let before = control_of(&registers.core);
-            match restore(base, window, base2, window2, registers, Half::Upper) {
-                Err(Stop::Outside) => How::Stopped(Stop::Outside),
-                Ok(()) => {
-                    registers.core[ICR] = icr;
-                    registers.core[PC] = to;
-                    settled(before, &registers.core)
-                }
-            }
+            registers.core[ICR] = icr;
+            registers.core[PC] = to;
+            settled(before, &registers.core)
         }
     }
 }
@@ -119,14 +107,14 @@ pub fn rslcx(
 ) -> How
     ensures { did result registers.new (lent base window.new base2 window2.new) ≡ perform_of (rslcx_of next registers.old) registers.old (lent base window.old base2 window2.old) }
 {
-    match previous_context(registers.core[PCXI], Half::Lower) {
-        Err(t) => How::Trap(t),
-        Ok(()) => match restore(base, window, base2, window2, registers, Half::Lower) {
-            Err(Stop::Outside) => How::Stopped(Stop::Outside),
-            Ok(()) => {
-                registers.core[PC] = next;
-                How::Done
-            }
-        },
+    if let Err(t) = previous_context(registers.core[PCXI], Half::Lower) {
+        return How::Trap(t);
+    }
+    match restore(base, window, base2, window2, registers, Half::Lower) {
+        Err(s) => How::Stopped(s),
+        Ok(()) => {
+            registers.core[PC] = next;
+            How::Done
+        }
     }
 }

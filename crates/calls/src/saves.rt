@@ -2,12 +2,12 @@
 
 ghost use Rattle.std.specs.Prelude.{◌≡◌};
 ghost use Rattle.memory.specs.Memory.{lent};
-ghost use Rattle.registers.specs.Registers.{registers};
 ghost use Rattle.acts.specs.Acts.{did, perform_of};
 ghost use Rattle.calls.specs.Saves.{called_then, call_of, forbids, lower_then, lower_save_of};
 
 use acts::{How, control_of, settled};
-use contexts::save::{Saved, save_lower, save_upper};
+use contexts::context::Half;
+use contexts::save::{Saved, save};
 use events::trap::{CDO, PRIV};
 use fields::depth::{called, overflows};
 use memory::address::Address;
@@ -37,7 +37,7 @@ pub fn call(
     if overflows(registers.core[PSW]) {
         return How::Trap(CDO);
     }
-    match save_upper(base, window, base2, window2, registers) {
+    match save(base, window, base2, window2, registers, Half::Upper, 0) {
         Err(s) => How::Stopped(s),
         Ok(Saved::Done) => {
             set_called(registers, to, next);
@@ -54,30 +54,17 @@ pub fn call(
 fn is_forbidden(bisr: bool, psw: u32) -> bool
     ensures { result ≡ forbids bisr psw }
 {
-    if bisr {
-        if fields::psw::supervisor(psw) {
-            return false;
-        }
-        return true;
-    }
-    false
+    bisr && !fields::psw::supervisor(psw)
 }
 
 // What SVLCX or BISR sets after its save.
-fn set_after(
-    registers: &mut Registers,
-    bisr: bool,
-    imm: u32,
-    next: u32,
-)
+fn set_after(registers: &mut Registers, bisr: bool, imm: u32, next: u32)
     ensures { registers.new ≡ lower_then bisr imm next registers.old }
 {
     if bisr {
         registers.core[ICR] = fields::icr::written(registers.core[ICR], true, imm);
-        registers.core[PC] = next;
-    } else {
-        registers.core[PC] = next;
     }
+    registers.core[PC] = next;
 }
 
 // SVLCX and BISR.
@@ -97,7 +84,7 @@ pub fn save_lower_half(
         return How::Trap(PRIV);
     }
     let before = control_of(&registers.core);
-    match save_lower(base, window, base2, window2, registers, next) {
+    match save(base, window, base2, window2, registers, Half::Lower, next) {
         Err(s) => How::Stopped(s),
         Ok(Saved::Done) => {
             set_after(registers, bisr, imm, next);

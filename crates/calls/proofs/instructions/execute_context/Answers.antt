@@ -1,4 +1,3 @@
-use Rattle.registers.specs.Registers.{registers}
 use Rattle.calls.specs.Instructions.{context_op}
 use Rattle.calls.proofs.Told.{call_told, lower_told}
 use Rattle.calls.proofs.instructions.execute_context.Goals as goal

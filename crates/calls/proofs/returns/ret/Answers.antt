@@ -6,14 +6,14 @@ pub returns-then-underflows : goal.returns-then-underflows
 unfolding ret_of
 returns-then-underflows c = rw (← c.underflows.ensures, c.if-underflows.true)
 
-pub returns-in-Traps : goal.returns-in-Traps
+pub returns-in-Err : goal.returns-in-Err
 unfolding ret_of
-returns-in-Traps c = rw (← c.underflows.ensures, c.if-underflows.false, ← c.previous_context.ensures, c.in-Traps.is)
+returns-in-Err c = rw (← c.underflows.ensures, c.if-underflows.false, ← c.previous_context.ensures, c.in-Err.is)
 
-pub returns-in-Outside : goal.returns-in-Outside
+pub returns-in-Err-restore : goal.returns-in-Err-restore
 unfolding ret_of
-returns-in-Outside c = rw (← c.underflows.ensures, c.if-underflows.false, ← c.previous_context.ensures, c.in-There.is, ← c.restore.ensures, c.in-Outside.is)
+returns-in-Err-restore c = rw (← c.underflows.ensures, c.if-underflows.false, ← c.previous_context.ensures, c.in_default.is, ← c.restore.ensures, c.in-Err-restore.is)
 
-pub returns-in-Done : goal.returns-in-Done
+pub returns-in-Ok : goal.returns-in-Ok
 unfolding ret_of done_of
-returns-in-Done c = rw (← c.underflows.ensures, c.if-underflows.false, ← c.previous_context.ensures, c.in-There.is, ← c.restore.ensures, c.in-Done.is, c.settled.ensures, c.control_of-before.ensures, c.new_pc-to.ensures)
+returns-in-Ok c = rw (← c.underflows.ensures, c.if-underflows.false, ← c.previous_context.ensures, c.in_default.is, ← c.restore.ensures, c.in-Ok.is, c.settled.ensures, c.control_of-before.ensures, c.new_pc-to.ensures)

@@ -4,18 +4,18 @@ use Rattle.calls.proofs.returns.rfe.Goals as goal
 
 pub returns-then-in_call : goal.returns-then-in_call
 unfolding rfe_of
-returns-then-in_call c = rw (← c.previous_context.ensures, c.in-There.is, ← c.in_call.ensures, c.if-in_call.true)
+returns-then-in_call c = rw (← c.previous_context.ensures, c.in_default.is, ← c.in_call.ensures, c.if-in_call.true)
 
-pub returns-in-Traps : goal.returns-in-Traps
+pub returns-in-Err : goal.returns-in-Err
 unfolding rfe_of
-returns-in-Traps c = rw (← c.previous_context.ensures, c.in-Traps.is)
+returns-in-Err c = rw (← c.previous_context.ensures, c.in-Err.is)
 
-pub returns-in-Outside : goal.returns-in-Outside
+pub returns-in-Err-restore : goal.returns-in-Err-restore
 unfolding rfe_of
-returns-in-Outside c = rw (← c.previous_context.ensures, c.in-There.is, ← c.in_call.ensures, c.if-in_call.false, ← c.restore.ensures, c.in-Outside.is)
+returns-in-Err-restore c = rw (← c.previous_context.ensures, c.in_default.is, ← c.in_call.ensures, c.if-in_call.false, ← c.restore.ensures, c.in-Err-restore.is)
 
-pub returns-in-Done : goal.returns-in-Done
+pub returns-in-Ok : goal.returns-in-Ok
 unfolding rfe_of done_of
-returns-in-Done c =
+returns-in-Ok c =
     let w = rw (c.interrupts.ensures, c.priority.ensures) at c.written-icr.ensures in
-    rw (← c.previous_context.ensures, c.in-There.is, ← c.in_call.ensures, c.if-in_call.false, ← c.restore.ensures, c.in-Done.is, c.settled.ensures, c.control_of-before.ensures, c.new_pc-to.ensures, w)
+    rw (← c.previous_context.ensures, c.in_default.is, ← c.in_call.ensures, c.if-in_call.false, ← c.restore.ensures, c.in-Ok.is, c.settled.ensures, c.control_of-before.ensures, c.new_pc-to.ensures, w)

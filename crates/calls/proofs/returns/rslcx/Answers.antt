@@ -3,14 +3,14 @@ use Rattle.acts.proofs.Heads.{return_steady}
 use Rattle.calls.specs.Returns.{rslcx_of}
 use Rattle.calls.proofs.returns.rslcx.Goals as goal
 
-pub returns-in-Traps : goal.returns-in-Traps
+pub returns-in-Err : goal.returns-in-Err
 unfolding rslcx_of
-returns-in-Traps c = rw (← c.previous_context.ensures, c.in-Traps.is)
+returns-in-Err c = rw (← c.previous_context.ensures, c.in-Err.is)
 
-pub returns-in-Outside : goal.returns-in-Outside
+pub returns-in-Err-restore : goal.returns-in-Err-restore
 unfolding rslcx_of
-returns-in-Outside c = rw (← c.previous_context.ensures, c.in-There.is, ← c.restore.ensures, c.in-Outside.is)
+returns-in-Err-restore c = rw (← c.previous_context.ensures, c.in_default.is, ← c.restore.ensures, c.in-Err-restore.is)
 
-pub returns-in-Done : goal.returns-in-Done
+pub returns-in-Ok : goal.returns-in-Ok
 unfolding rslcx_of
-returns-in-Done c = rw (← c.previous_context.ensures, c.in-There.is, ← c.restore.ensures, c.in-Done.is) (done_did (steady_then (return_steady _ c.restore.ensures) (steady_pc _ _)) _)
+returns-in-Ok c = rw (← c.previous_context.ensures, c.in_default.is, ← c.restore.ensures, c.in-Ok.is) (done_did (steady_then (return_steady _ c.restore.ensures) (steady_pc _ _)) _)

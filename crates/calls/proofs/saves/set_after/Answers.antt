@@ -1,9 +1,11 @@
 use Rattle.calls.specs.Saves.{bisr_then}
 use Rattle.calls.proofs.saves.set_after.Goals as goal
+use Rattle.calls.proofs.saves.set_after.Goals.{then-bisr, else-bisr}
 
-pub returns-then-bisr : goal.returns-then-bisr
+pub returns : goal.returns
 unfolding bisr_then
-returns-then-bisr c = rw (c.if-bisr.true, c.written.ensures)
-
-pub returns-else-bisr : goal.returns-else-bisr
-returns-else-bisr c = rw c.if-bisr.false
+returns c =
+    elim c.if-bisr.branch [
+      | then-bisr w ↦ rw (w.registers-is, w.if-bisr.true, w.written.ensures)
+      | else-bisr w ↦ rw (w.registers-is, w.if-bisr.false)
+    ]
