@@ -21,7 +21,7 @@ use Rattle.registers.specs.declared.Registers.{Registers}
 use Rattle.system.specs.CoreRegisters.{named_of, read_by, core_at, written_by, written_of}
 use Rattle.system.specs.Instructions.{enable_of, system_of}
 use Rattle.system.specs.declared.core_registers.Named.{Named}
-use Rattle.system.specs.declared.core_registers.Named.TheVariants.{Pc, Register, Nothing}
+use Rattle.system.specs.declared.core_registers.Named.TheVariants.{Pc, Register}
 use Rattle.decisions.specs.Valid.{Valid}
 use Rattle.decisions.specs.Heads.{is_head, writes_head}
 use Rattle.decisions.proofs.Setters.{valid_core}
@@ -31,34 +31,34 @@ use Rattle.decisions.proofs.Sound.{Sound, EndsSound, sound_start, sound_d, sound
 use Rattle.decisions.proofs.Families.{Decoded, onward, small}
 
 -- PC is not under a register's index
-abbrev NotPc : Named → Type 0
-NotPc Pc = Unit {0}
-NotPc (Register k) = 0 < k
-NotPc Nothing = Unit {0}
+abbrev NotPc : Option Named → Type 0
+NotPc (Some Pc) = Unit {0}
+NotPc (Some (Register k)) = 0 < k
+NotPc None = Unit {0}
 
 named_not : (offset : ℕ) → NotPc (named_of offset)
 unfolding named_of
 named_not offset =
-    either_has NotPc (eqb offset 0xFE00) {x = Register 2} (omega arith)
-    (either_has NotPc (eqb offset 0xFE04) {x = Register 1} (omega arith)
-    (either_has NotPc (eqb offset 0xFE08) {x = Pc} tt
-    (either_has NotPc (eqb offset 0xFE14) {x = Register 9} (omega arith)
-    (either_has NotPc (eqb offset 0xFE20) {x = Register 7} (omega arith)
-    (either_has NotPc (eqb offset 0xFE24) {x = Register 8} (omega arith)
-    (either_has NotPc (eqb offset 0xFE28) {x = Register 6} (omega arith)
-    (either_has NotPc (eqb offset 0xFE2C) {x = Register 5} (omega arith)
-    (either_has NotPc (eqb offset 0xFE38) {x = Register 3} (omega arith)
-    (either_has NotPc (eqb offset 0xFE3C) {x = Register 4} {y = Nothing} (omega arith) tt)))))))))
+    either_has NotPc (eqb offset 0xFE00) {x = Some (Register 2)} (omega arith)
+    (either_has NotPc (eqb offset 0xFE04) {x = Some (Register 1)} (omega arith)
+    (either_has NotPc (eqb offset 0xFE08) {x = Some Pc} tt
+    (either_has NotPc (eqb offset 0xFE14) {x = Some (Register 9)} (omega arith)
+    (either_has NotPc (eqb offset 0xFE20) {x = Some (Register 7)} (omega arith)
+    (either_has NotPc (eqb offset 0xFE24) {x = Some (Register 8)} (omega arith)
+    (either_has NotPc (eqb offset 0xFE28) {x = Some (Register 6)} (omega arith)
+    (either_has NotPc (eqb offset 0xFE2C) {x = Some (Register 5)} (omega arith)
+    (either_has NotPc (eqb offset 0xFE38) {x = Some (Register 3)} (omega arith)
+    (either_has NotPc (eqb offset 0xFE3C) {x = Some (Register 4)} {y = None} (omega arith) tt)))))))))
 
 module _ {r : Registers} (w : Valid r) where
-  read_word : (n : Named) → Word (read_by r.core n)
-  read_word Pc = w.core.each 0
-  read_word (Register k) = w.core.each k
-  read_word Nothing = omega arith
+  read_word : (n : Option Named) → Word (read_by r.core n)
+  read_word (Some Pc) = w.core.each 0
+  read_word (Some (Register k)) = w.core.each k
+  read_word None = omega arith
 
-  written_sound : (User r → ⊥) → (n : Named) → NotPc n → (v : ℕ) → Word v → Sound (is_head n ≡ false) r (registers r.d r.a (written_by r.core v n))
-  written_sound x Pc h v g = sound_start w
-  written_sound x (Register k) h v g =
+  written_sound : (User r → ⊥) → (n : Option Named) → NotPc n → (v : ℕ) → Word v → Sound (is_head n ≡ false) r (registers r.d r.a (written_by r.core v n))
+  written_sound x (Some Pc) h v g = sound_start w
+  written_sound x (Some (Register k)) h v g =
       record {
         valid = valid_core w k v h g;
         heads = λ q.
@@ -69,7 +69,7 @@ module _ {r : Registers} (w : Valid r) where
             });
         level = λ u. absurd (x u);
       }
-  written_sound x Nothing h v g = sound_start w
+  written_sound x None h v g = sound_start w
 
   weaken : {p q : Type 0} {s : Registers} → (p → q) → Sound q r s → Sound p r s
   weaken f s = record { valid = s.valid; heads = λ x. s.heads (f x); level = s.level }

@@ -5,29 +5,29 @@ ghost use Rattle.system.specs.CoreRegisters.{named_of, Known, core_at, written_o
 
 use registers::{BIV, BTV, CORE, FCX, ICR, ISP, LCX, PC, PCXI, PSW, SYSCON};
 
+// What an offset names.
 #[derive(Clone, Copy)]
 pub enum Named {
     Pc,
     // any other, by its index
     Register(usize),
-    Nothing,
 }
 
-fn named_at(offset: u32) -> Named
+fn named_at(offset: u32) -> Option<Named>
     ensures { (result ≡ named_of offset) × Known result }
 {
     match offset {
-        0xFE00 => Named::Register(PCXI),
-        0xFE04 => Named::Register(PSW),
-        0xFE08 => Named::Pc,
-        0xFE14 => Named::Register(SYSCON),
-        0xFE20 => Named::Register(BIV),
-        0xFE24 => Named::Register(BTV),
-        0xFE28 => Named::Register(ISP),
-        0xFE2C => Named::Register(ICR),
-        0xFE38 => Named::Register(FCX),
-        0xFE3C => Named::Register(LCX),
-        _ => Named::Nothing,
+        0xFE00 => Some(Named::Register(PCXI)),
+        0xFE04 => Some(Named::Register(PSW)),
+        0xFE08 => Some(Named::Pc),
+        0xFE14 => Some(Named::Register(SYSCON)),
+        0xFE20 => Some(Named::Register(BIV)),
+        0xFE24 => Some(Named::Register(BTV)),
+        0xFE28 => Some(Named::Register(ISP)),
+        0xFE2C => Some(Named::Register(ICR)),
+        0xFE38 => Some(Named::Register(FCX)),
+        0xFE3C => Some(Named::Register(LCX)),
+        _ => None,
     }
 }
 
@@ -36,9 +36,9 @@ pub fn read_core(core: &[u32; CORE], offset: u32) -> u32
     ensures { result ≡ core_at core.now offset }
 {
     match named_at(offset) {
-        Named::Pc => core[PC],
-        Named::Register(k) => core[k],
-        Named::Nothing => 0,
+        Some(Named::Pc) => core[PC],
+        Some(Named::Register(k)) => core[k],
+        None => 0,
     }
 }
 
@@ -47,10 +47,10 @@ pub fn write_core(core: &mut [u32; CORE], offset: u32, value: u32)
     ensures { core.new ≡ written_of core.old offset value }
 {
     match named_at(offset) {
-        Named::Pc => {}
-        Named::Register(k) => {
+        Some(Named::Pc) => {}
+        Some(Named::Register(k)) => {
             core[k] = value;
         }
-        Named::Nothing => {}
+        None => {}
     }
 }

@@ -15,27 +15,23 @@ use operations::System;
 use registers::{ICR, PC, PSW, Registers};
 
 // ENABLE and DISABLE: IE.
-fn set_enable(
-    registers: &mut Registers,
-    ie: bool,
-    next: u32,
-) -> How
+fn set_enable(registers: &mut Registers, ie: bool, next: u32) -> How
     ensures { ended result registers.new ≡ ended_of (enable_of ie next registers.old) registers.old }
 {
     if psw::user0(registers.core[PSW]) {
         return How::Trap(PRIV);
     }
     let before = control_of(&registers.core);
-    registers.core[ICR] = fields::icr::written(registers.core[ICR], ie, fields::icr::priority(registers.core[ICR]));
+    registers.core[ICR] = fields::icr::written(
+        registers.core[ICR],
+        ie,
+        fields::icr::priority(registers.core[ICR]),
+    );
     registers.core[PC] = next;
     settled(before, &registers.core)
 }
 
-pub fn execute_system(
-    registers: &mut Registers,
-    op: System,
-    i: Instruction,
-) -> How
+pub fn execute_system(registers: &mut Registers, op: System, i: Instruction) -> How
     requires { FieldsHold i }
     ensures { ended result registers.new ≡ ended_of (system_of op i registers.old) registers.old }
 {
