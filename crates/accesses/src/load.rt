@@ -2,19 +2,19 @@
 
 ghost use Rattle.std.specs.Prelude.{◌≡◌, ◌<◌};
 ghost use Rattle.memory.specs.Memory.{lent};
-ghost use Rattle.registers.specs.Registers.{registers, with_d, with_pc};
+ghost use Rattle.registers.specs.Registers.{with_d, with_pc};
 ghost use Rattle.image.specs.Fetch.{FieldsHold};
 ghost use Rattle.acts.specs.Acts.{Sets, ended, ended_of};
 ghost use Rattle.accesses.specs.Load.{extend_byte, extend_half, load_of};
 
-use crate::reach::{Reach, data_address, reach_data};
+use crate::reach::{data_address, reach_data};
 use acts::How;
 use areas::data::{load_byte, load_half, load_word};
 use areas::link::spot_at;
 use image::fetch::Instruction;
 use memory::address::Address;
 use operations::Load;
-use protection::range::Right;
+use protection::range::{Range, Right};
 use registers::{PC, PSW, Registers, guarded};
 
 // A byte as a signed word.

@@ -4,18 +4,12 @@ ghost use Rattle.std.specs.Prelude.{◌≡◌, ◌++◌, length, ◌<◌};
 ghost use Rattle.memory.specs.Memory.{windows};
 ghost use Rattle.accesses.specs.Reach.{data_address, aligned_reach, reach_of};
 
-use areas::link::{Place, place_at};
+use areas::link::place_at;
 use events::trap::{ALN, DATA, GRWP, Trap};
 use memory::address::{Address, as_address};
-use protection::access::{Check, check_access};
-use protection::range::Right;
+use protection::access::check_access;
+use protection::range::{Range, Right};
 use registers::{CORE, plus};
-
-#[derive(Clone, Copy)]
-pub enum Reach {
-    At(usize),
-    Traps(Trap),
-}
 
 // The address of a load's or a store's data: A[a] plus immediate, modulo 2^32.
 pub fn data_address(register: u32, imm: u32) -> Address
@@ -67,10 +61,8 @@ pub fn reach_data(
     requires { 0 < alignment }
     ensures { result ≡ reach_of (windows base (length window.now) base2) (length (window.now ++ window2.now)) core.now ranges.now right guarded size alignment address }
 {
-    match check_access(core, ranges, right, address) {
-        Err(t) => Err(t),
-        Ok(()) => reach_aligned(
-            base, window, base2, window2, guarded, size, alignment, address,
-        ),
-    }
+    check_access(core, ranges, right, address)?;
+    reach_aligned(
+        base, window, base2, window2, guarded, size, alignment, address,
+    )
 }

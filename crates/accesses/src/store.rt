@@ -2,19 +2,18 @@
 
 ghost use Rattle.std.specs.Prelude.{◌≡◌};
 ghost use Rattle.memory.specs.Memory.{lent};
-ghost use Rattle.registers.specs.Registers.{registers};
 ghost use Rattle.image.specs.Fetch.{FieldsHold};
 ghost use Rattle.acts.specs.Acts.{did, perform_of};
 ghost use Rattle.accesses.specs.Store.{store_of};
 
-use crate::reach::{Reach, data_address, reach_data};
+use crate::reach::{data_address, reach_data};
 use acts::How;
 use areas::data::{store_byte, store_half, store_word};
 use areas::link::spot_at;
 use image::fetch::Instruction;
 use memory::address::Address;
 use operations::Store;
-use protection::range::Right;
+use protection::range::{Range, Right};
 use registers::{PC, Registers};
 
 // A store. Each operation has an arm of its own, with its size and alignment as constants.

@@ -36,7 +36,6 @@ use Rattle.std.specs.Prelude.{Err, Ok, Result, ⊤}
 use Rattle.contexts.specs.declared.save.Saved.{Saved}
 use Rattle.events.specs.declared.event.Stop.{Stop}
 use Rattle.contexts.specs.declared.save.Saved.TheVariants.{Depleted, Done}
-use Rattle.events.specs.declared.event.Stop.TheVariants.{Outside}
 
 pub performs : {o : Operation} {v : Did} (i : Instruction) (r : Registers) (rs : List Range) (m : Memory) → i.op ≡ o → v ≡ perform_of (act_by o i r rs m) r m → v ≡ perform_of (act_of i r rs m) r m
 unfolding act_of
@@ -73,7 +72,7 @@ module _ (next : ℕ) (r : Registers) (m : Memory) where
 
   return_is : (then : Registers → Registers) (s : Result ⊤ Stop) (q : Registers) (n : Memory) → finish_did next (return_did then r s q n) ≡ returning_by then s q n
   unfolding finish_of
-  return_is then (Err Outside) q n = refl
+  return_is then (Err x) q n = refl
   return_is then (Ok _) q n = done_finish _ n
 
   act_is : (a : Act) → finish_did next (perform_of a r m) ≡ performed_of (act_decides next r a) r m
@@ -112,7 +111,7 @@ module _ (r : Registers) where
   save_told then (Ok Depleted) core n = tt
 
   return_told : (then : Registers → Registers) (s : Result ⊤ Stop) (q : Registers) (n : Memory) → ToldDid r (return_did then r s q n)
-  return_told then (Err Outside) q n = tt
+  return_told then (Err x) q n = tt
   return_told then (Ok _) q n = done_told _
 
   act_told : (m : Memory) (a : Act) → ToldDid r (perform_of a r m)

@@ -5,7 +5,6 @@ use Rattle.registers.specs.Registers.{pc}
 use Rattle.registers.specs.declared.Registers.{Registers}
 use Rattle.events.specs.declared.event.Event.{Event}
 use Rattle.events.specs.declared.event.Event.TheVariants as event
-use Rattle.events.specs.declared.event.Stop.TheVariants as stop
 use Rattle.operations.specs.declared.Store.{Store}
 use Rattle.contexts.specs.Restore.{return_of}
 use Rattle.contexts.specs.declared.context.Half.{Half}
@@ -16,7 +15,6 @@ use Rattle.entries.specs.declared.entry.Cause.TheVariants as cause
 use Rattle.acts.specs.Acts as acts
 use Rattle.acts.specs.Acts.{Act, Effect, stored_of}
 use Rattle.events.specs.declared.event.Stop.{Stop}
-use Rattle.events.specs.declared.event.Stop.TheVariants.{Outside}
 
 pub data Decision : Type 0 where
   -- memory stays, with the registers after the step
@@ -46,7 +44,7 @@ act_decides next r (acts.Save half saved-pc then) = Save event.Instruction half 
 act_decides next r (acts.Return half then) = Return half then
 
 abbrev pub returning_by : (Registers → Registers) → Result ⊤ Stop → Registers → Memory → MadeOf
-returning_by then (Err Outside) q m = made (Err stop.Outside) q m
+returning_by then (Err s) q m = made (Err s) q m
 returning_by then (Ok _) q m = made (Ok event.Instruction) (then q) m
 
 -- a decision performed. This alone changes memory. The heads of the lists are changed by a save and a return; a Keep may have them set by an MTCR

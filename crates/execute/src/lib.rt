@@ -4,7 +4,6 @@
 
 ghost use Rattle.std.specs.Prelude.{◌≡◌};
 ghost use Rattle.memory.specs.Memory.{lent};
-ghost use Rattle.registers.specs.Registers.{registers};
 ghost use Rattle.image.specs.Fetch.{FieldsHold};
 ghost use Rattle.entries.specs.Entry.{made};
 ghost use Rattle.acts.specs.Acts.{did, perform_of};
@@ -16,12 +15,13 @@ use accesses::store::execute_store;
 use acts::How;
 use calls::instructions::execute_context;
 use entries::entry::{enter_fcd, trap};
-use events::event::{Ending, Event, passed_on};
+use events::event::{Event, Stop, passed_on};
 use image::fetch::Instruction;
 use jumps::execute_jump;
 use memory::address::Address;
 use moves::{execute_integer, execute_move};
 use operations::Operation;
+use protection::range::Range;
 use registers::{PC, Registers};
 use system::instructions::execute_system;
 
@@ -29,7 +29,7 @@ use system::instructions::execute_system;
 #[derive(Clone, Copy)]
 pub enum Executed {
     Steady,
-    Ended(Ending),
+    Ended(Result<Event, Stop>),
 }
 
 // The ending in either case.
@@ -45,10 +45,7 @@ pub fn ending_of(x: Executed) -> Result<Event, Stop>
 pub fn steady(x: Executed) -> bool
     ensures { result ≡ is_steady x }
 {
-    match x {
-        Executed::Steady => true,
-        Executed::Ended(_) => false,
-    }
+    matches!(x, Executed::Steady)
 }
 
 // Decides what an instruction does, and performs it.

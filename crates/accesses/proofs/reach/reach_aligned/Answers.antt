@@ -10,10 +10,10 @@ pub returns-then-address-alignment-ne0 : goal.returns-then-address-alignment-ne0
 unfolding aligned_reach
 returns-then-address-alignment-ne0 c = rw (c.if-guarded.false, ne_eqb _ _ c.if-address-alignment-ne0.true)
 
-pub returns-in-Outside : goal.returns-in-Outside
+pub returns-in-None : goal.returns-in-None
 unfolding aligned_reach
-returns-in-Outside c = rw (c.if-guarded.false, eq-eqb _ _ c.if-address-alignment-ne0.false, ← c.place_at.ensures, c.in-Outside.is)
+returns-in-None c = rw (c.if-guarded.false, eq-eqb _ _ c.if-address-alignment-ne0.false, ← c.place_at.ensures, c.in-None.is)
 
-pub returns-in-At : goal.returns-in-At
+pub returns-in-Some : goal.returns-in-Some
 unfolding aligned_reach
-returns-in-At c = rw (c.if-guarded.false, eq-eqb _ _ c.if-address-alignment-ne0.false, ← c.place_at.ensures, c.in-At.is)
+returns-in-Some c = rw (c.if-guarded.false, eq-eqb _ _ c.if-address-alignment-ne0.false, ← c.place_at.ensures, c.in-Some.is)

@@ -1,10 +1,11 @@
+use Rattle.std.proofs.Common.{rules}
 use Rattle.accesses.specs.Reach.{reach_of}
 use Rattle.accesses.proofs.reach.reach_data.Goals as goal
 
-pub returns-in-Fails : goal.returns-in-Fails
+pub returns-in_err-check_access : goal.returns-in_err-check_access
 unfolding reach_of
-returns-in-Fails c = rw (← c.check_access.ensures, c.in-Fails.is)
+returns-in_err-check_access c = rw (← c.check_access.ensures, c.in_err-check_access.was) (search rules)
 
-pub returns-in-Passes : goal.returns-in-Passes
+pub returns : goal.returns
 unfolding reach_of
-returns-in-Passes c = rw (← c.check_access.ensures, c.in-Passes.is) c.reach_aligned.ensures
+returns c = rw (← c.check_access.ensures, c.in_ok-check_access.was) c.reach_aligned.ensures
