@@ -21,6 +21,7 @@ use Rattle.registers.specs.declared.Registers.{Registers}
 use Rattle.system.specs.CoreRegisters.{named_of, read_by, core_at, written_by, written_of}
 use Rattle.system.specs.Instructions.{enable_of, system_of}
 use Rattle.system.specs.declared.core_registers.Named.{Named}
+use Rattle.std.specs.Prelude.{Option, Some, None}
 use Rattle.system.specs.declared.core_registers.Named.TheVariants.{Pc, Register}
 use Rattle.decisions.specs.Valid.{Valid}
 use Rattle.decisions.specs.Heads.{is_head, writes_head}

@@ -1,5 +1,5 @@
 -- The heads of the lists are FCX and PCXI. An MTCR to one of them that doesn't trap writes it directly.
-use Rattle.std.specs.Prelude.{ℕ, List, eqb, Bool, false, ◌&&◌, ◌||◌}
+use Rattle.std.specs.Prelude.{ℕ, List, eqb, Bool, false, ◌&&◌, ◌||◌, Option, Some, None}
 use Rattle.fields.specs.Psw.{is_supervisor}
 use Rattle.registers.specs.Core.{PCXI, FCX}
 use Rattle.registers.specs.Registers.{psw}
@@ -11,13 +11,13 @@ use Rattle.image.specs.declared.fetch.Instruction.{Instruction}
 use Rattle.protection.specs.declared.range.Range.{Range}
 use Rattle.system.specs.CoreRegisters.{named_of}
 use Rattle.system.specs.declared.core_registers.Named.{Named}
-use Rattle.system.specs.declared.core_registers.Named.TheVariants.{Pc, Register, Nothing}
+use Rattle.system.specs.declared.core_registers.Named.TheVariants.{Pc, Register}
 use Rattle.decisions.specs.Beginning.{Beginning, Interrupts, Traps, Executes, beginning_of}
 
-abbrev pub is_head : Named → Bool
-is_head Pc = false
-is_head (Register k) = eqb k PCXI || eqb k FCX
-is_head Nothing = false
+abbrev pub is_head : Option Named → Bool
+is_head (Some Pc) = false
+is_head (Some (Register k)) = eqb k PCXI || eqb k FCX
+is_head None = false
 
 -- the instruction writes a head directly
 abbrev pub writes_head : Operation → Instruction → Registers → Bool

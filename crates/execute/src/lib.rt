@@ -73,9 +73,7 @@ fn perform(
         }
         Operation::Move(x) => execute_move(registers, x, i),
         Operation::Load(x) => execute_load(base, window, base2, window2, registers, ranges, x, i),
-        Operation::Store(x) => execute_store(
-            base, window, base2, window2, registers, ranges, x, i,
-        ),
+        Operation::Store(x) => execute_store(base, window, base2, window2, registers, ranges, x, i),
         Operation::Jump(x) => execute_jump(registers, x, i),
         Operation::Context(x) => execute_context(base, window, base2, window2, registers, x, i),
         Operation::System(x) => execute_system(registers, x, i),
