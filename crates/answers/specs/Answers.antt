@@ -20,7 +20,7 @@ permit_number (Some k) = 4 + k % 4
 
 -- bits 26:24 for the fetch, 29:27 for the data access
 abbrev pub permits_number : Permits → ℕ
-permits_number p = permit_number p.fetch + permit_number p.data * 2 ^ 3
+permits_number p = permit_number p.fetch + permit_number p.access * 2 ^ 3
 
 -- 0 an instruction, 1 an interrupt with its source, 2 a trap with class and TIN
 abbrev pub event_answer : Event → ℕ → ℕ → ℕ

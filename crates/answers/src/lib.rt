@@ -36,8 +36,8 @@ pub fn permits(p: Permits) -> u8
     ensures { result ≡ permits_number p }
 {
     let fetch = p.fetch;
-    let data = p.data;
-    permit(fetch) + permit(data) * 8
+    let access = p.access;
+    permit(fetch) + permit(access) * 8
 }
 
 fn event_answer(e: Event, permits: u8, high: u32) -> u64

@@ -58,7 +58,7 @@ pub fn read_record(image: &[u8], at: usize, next: u32) -> Instruction
 // Of an instruction what says which data it accesses.
 #[derive(Clone, Copy)]
 pub struct Operand {
-    pub access: Access,
+    pub access: Option<Access>,
     pub a: usize,
     pub imm: u32,
 }

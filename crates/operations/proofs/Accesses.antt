@@ -8,27 +8,28 @@ use mathlib.Core.Path.{◌≡◌, refl, ap, sym, ◌∙◌}
 use mathlib.Core.Bool.{Bool, true, cond}
 use lib.Dec.{ltb, eqb}
 use borrow.Author.Tests.{eqb-true, lt-ltb, le-ltb}
+use Rattle.std.specs.Prelude.{Option, Some, None}
 use Rattle.operations.specs.Operations.{operations, operation_of, access_of}
 use Rattle.operations.specs.declared.Operation.{Operation}
 use Rattle.operations.specs.declared.Access.{Access}
-use Rattle.operations.specs.declared.Access.TheVariants.{Nothing, Read, Write}
+use Rattle.operations.specs.declared.Access.TheVariants.{Read, Write}
 use Rattle.operations.proofs.Table.{every, in_table, from_last}
 
-abbrev pub code : Access → ℕ
-code Nothing = 0
-code Read = 1
-code Write = 2
+abbrev pub code : Option Access → ℕ
+code None = 0
+code (Some Read) = 1
+code (Some Write) = 2
 
-same_code : (x y : Access) → code x ≡ code y → x ≡ y
-same_code Nothing Nothing e = refl
-same_code Nothing Read e = absurd (omega arith)
-same_code Nothing Write e = absurd (omega arith)
-same_code Read Nothing e = absurd (omega arith)
-same_code Read Read e = refl
-same_code Read Write e = absurd (omega arith)
-same_code Write Nothing e = absurd (omega arith)
-same_code Write Read e = absurd (omega arith)
-same_code Write Write e = refl
+same_code : (x y : Option Access) → code x ≡ code y → x ≡ y
+same_code None None e = refl
+same_code None (Some Read) e = absurd (omega arith)
+same_code None (Some Write) e = absurd (omega arith)
+same_code (Some Read) None e = absurd (omega arith)
+same_code (Some Read) (Some Read) e = refl
+same_code (Some Read) (Some Write) e = absurd (omega arith)
+same_code (Some Write) None e = absurd (omega arith)
+same_code (Some Write) (Some Read) e = absurd (omega arith)
+same_code (Some Write) (Some Write) e = refl
 
 -- LD.B to LD.A have 44 to 49, ST.B to ST.A 50 to 53
 code_by : ℕ → ℕ
@@ -45,7 +46,7 @@ coded : (n : ℕ) → n < 79 → code (access_of (operation_of n)) ≡ code_by n
 unfolding test
 coded n h = eqb-true _ _ (in_table test computed n h)
 
-by_code : (n : ℕ) (x : Access) → code_by n ≡ code x → (54 ≤ n → x ≡ Nothing) → x ≡ access_of (operation_of n)
+by_code : (n : ℕ) (x : Option Access) → code_by n ≡ code x → (54 ≤ n → x ≡ None) → x ≡ access_of (operation_of n)
 unfolding operation_of
 by_code n x c past = go (dec_le 79 n)
   where
@@ -53,23 +54,23 @@ by_code n x c past = go (dec_le 79 n)
     go (yes h) = past (omega arith) ∙ ap access_of (sym (from_last n (omega arith)))
     go (no h) = same_code _ _ (sym c ∙ sym (coded n (lt_of_not-le h)))
 
-pub before_loads : (n : ℕ) → n < 44 → Nothing ≡ access_of (operation_of n)
+pub before_loads : (n : ℕ) → n < 44 → None ≡ access_of (operation_of n)
 unfolding code_by
-before_loads n h = by_code n Nothing (rw (lt-ltb n 44 h)) (λ l. absurd (omega arith))
+before_loads n h = by_code n None (rw (lt-ltb n 44 h)) (λ l. absurd (omega arith))
 
-pub loads : (n : ℕ) → 44 ≤ n → n < 50 → Read ≡ access_of (operation_of n)
+pub loads : (n : ℕ) → 44 ≤ n → n < 50 → (Some Read) ≡ access_of (operation_of n)
 unfolding code_by
-loads n l h = by_code n Read (rw (le-ltb n 44 l, lt-ltb n 50 h)) (λ l. absurd (omega arith))
+loads n l h = by_code n (Some Read) (rw (le-ltb n 44 l, lt-ltb n 50 h)) (λ l. absurd (omega arith))
 
-pub stores : (n : ℕ) → 50 ≤ n → n < 54 → Write ≡ access_of (operation_of n)
+pub stores : (n : ℕ) → 50 ≤ n → n < 54 → (Some Write) ≡ access_of (operation_of n)
 unfolding code_by
 stores n l h =
     let k : 44 ≤ n = omega arith in
-    by_code n Write (rw (le-ltb n 44 k, le-ltb n 50 l, lt-ltb n 54 h)) (λ l. absurd (omega arith))
+    by_code n (Some Write) (rw (le-ltb n 44 k, le-ltb n 50 l, lt-ltb n 54 h)) (λ l. absurd (omega arith))
 
-pub past_stores : (n : ℕ) → 54 ≤ n → Nothing ≡ access_of (operation_of n)
+pub past_stores : (n : ℕ) → 54 ≤ n → None ≡ access_of (operation_of n)
 unfolding code_by
 past_stores n l =
     let j : 44 ≤ n = omega arith in
     let k : 50 ≤ n = omega arith in
-    by_code n Nothing (rw (le-ltb n 44 j, le-ltb n 50 k, le-ltb n 54 l)) (λ _. refl)
+    by_code n None (rw (le-ltb n 44 j, le-ltb n 50 k, le-ltb n 54 l)) (λ _. refl)

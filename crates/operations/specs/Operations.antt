@@ -1,5 +1,5 @@
 -- Document 01's operations in its order, from 0: the one table of their numbers.
-use Rattle.std.specs.Prelude.{ℕ, Bool, true, false, List, [], ◌∷◌, get_or}
+use Rattle.std.specs.Prelude.{ℕ, Bool, true, false, List, [], ◌∷◌, get_or, Option, Some, None}
 use Rattle.integer.specs.declared.Integer.TheVariants as integer
 use Rattle.operations.specs.declared.Operation.{Operation}
 use Rattle.operations.specs.declared.Operation.TheVariants.{Nop, Integer, Move, Load, Store, Jump, Context, System}
@@ -11,7 +11,7 @@ use Rattle.operations.specs.declared.Jump.TheVariants as jump
 use Rattle.operations.specs.declared.Context.TheVariants as context
 use Rattle.operations.specs.declared.System.TheVariants as system
 use Rattle.operations.specs.declared.Access.{Access}
-use Rattle.operations.specs.declared.Access.TheVariants.{Nothing, Read, Write}
+use Rattle.operations.specs.declared.Access.TheVariants.{Read, Write}
 
 -- the last, RSTV, has number 78; a higher number breaks rule 3
 abbrev pub operations : List Operation
@@ -102,15 +102,15 @@ unfoldable pub operation_of : ℕ → Operation
 operation_of n = get_or operations n (System system.Rstv)
 
 -- the loads read data memory, the stores write it
-abbrev pub access_of : Operation → Access
-access_of Nop = Nothing
-access_of (Integer op) = Nothing
-access_of (Move op) = Nothing
-access_of (Load op) = Read
-access_of (Store op) = Write
-access_of (Jump op) = Nothing
-access_of (Context op) = Nothing
-access_of (System op) = Nothing
+abbrev pub access_of : Operation → Option Access
+access_of Nop = None
+access_of (Integer op) = None
+access_of (Move op) = None
+access_of (Load op) = Some Read
+access_of (Store op) = Some Write
+access_of (Jump op) = None
+access_of (Context op) = None
+access_of (System op) = None
 
 -- JEQ to JGE.U compare D[a] with D[b], and refuse b = 16
 abbrev pub jump_compares : jumps.Jump → Bool

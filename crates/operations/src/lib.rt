@@ -184,28 +184,27 @@ pub fn decode(byte: u8) -> Operation
     }
 }
 
-// What an operation does with data memory.
+// What an operation that accesses data memory does with it.
 #[derive(Clone, Copy)]
 pub enum Access {
-    Nothing,
     Read,
     Write,
 }
 
-// Of the operation with a number.
-pub fn access_of(number: u8) -> Access
+// Of the operation with a number, if it accesses data.
+pub fn access_of(number: u8) -> Option<Access>
     ensures { result ≡ access_of (operation_of number) }
 {
     if number < 44 {
-        return Access::Nothing;
+        return None;
     }
     if number < 50 {
-        return Access::Read;
+        return Some(Access::Read);
     }
     if number < 54 {
-        return Access::Write;
+        return Some(Access::Write);
     }
-    Access::Nothing
+    None
 }
 
 // Whether a number is that of an operation.

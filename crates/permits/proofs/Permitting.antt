@@ -73,7 +73,7 @@ module _ (core : List ℕ) (rs : List Range) where
   off (access right address) p = not_asked right address p
 
   -- ---- the data access of an instruction
-  pub of_data : (a : List ℕ) (i : Instruction) (k imm : ℕ) (address : Address) → k ≡ i.a → imm ≡ i.imm → address ≡ data_address (get_or a k 0) imm → (x y : Access) → y ≡ access_of i.op → y ≡ x → {p : Option ℕ} → p ≡ permit_asked core rs (data_by x address) → p ≡ permit_asked core rs (data_in i a)
+  pub of_data : (a : List ℕ) (i : Instruction) (k imm : ℕ) (address : Address) → k ≡ i.a → imm ≡ i.imm → address ≡ data_address (get_or a k 0) imm → (x y : Option Access) → y ≡ access_of i.op → y ≡ x → {p : Option ℕ} → p ≡ permit_asked core rs (data_by x address) → p ≡ permit_asked core rs (data_in i a)
   of_data a i k imm address f g is x y e d h = rw (← f, ← g, ← e, d, ← is) h
 
   module _ (img a : List ℕ) where
@@ -94,13 +94,13 @@ module _ (core : List ℕ) (rs : List Range) where
     -- ---- of a step
     module _ (xs : List ℕ) where
       abbrev Says : Beginning → Permits → Type 0
-      Says s p = (p ≡ begun_permits a core rs s) × (Exactly (NamedFor core rs (fetch_asked (get_or core 0 0) s)) p.fetch × Exactly (NamedFor core rs (data_asked a s)) p.data)
+      Says s p = (p ≡ begun_permits a core rs s) × (Exactly (NamedFor core rs (fetch_asked (get_or core 0 0) s)) p.fetch × Exactly (NamedFor core rs (data_asked a s)) p.access)
 
       says_both : (s : Beginning) (f d : Option ℕ) → f ≡ permit_asked core rs (fetch_asked (get_or core 0 0) s) → d ≡ permit_asked core rs (data_asked a s) → Says s (permits_by f d)
       says_both s f d p q = (ap (λ (x : Option ℕ). permits_by x d) p ∙ ap (permits_by (permit_asked core rs (fetch_asked (get_or core 0 0) s))) q, (named (fetch_asked (get_or core 0 0) s) f p, named (data_asked a s) d q))
 
       abbrev pub Both : Permits → Type 0
-      Both p = (p ≡ permits_of img a core xs rs) × (Exactly (NamedFor core rs (fetch_asked (get_or core 0 0) (beginning_of img core xs rs))) p.fetch × Exactly (NamedFor core rs (data_asked a (beginning_of img core xs rs))) p.data)
+      Both p = (p ≡ permits_of img a core xs rs) × (Exactly (NamedFor core rs (fetch_asked (get_or core 0 0) (beginning_of img core xs rs))) p.fetch × Exactly (NamedFor core rs (data_asked a (beginning_of img core xs rs))) p.access)
 
       both : (p : Permits) (s : Beginning) → beginning_of img core xs rs ≡ s → Says s p → Both p
       unfolding permits_of

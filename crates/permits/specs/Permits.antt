@@ -1,5 +1,5 @@
 -- The ranges that permit a step's fetch and its data access: of set PRS the lowest (02, point 2).
-use Rattle.std.specs.Prelude.{ℕ, ◌≡◌, true, false, List, ◌⊎◌, get_or, None, Option}
+use Rattle.std.specs.Prelude.{ℕ, ◌≡◌, true, false, List, ◌⊎◌, get_or, Option, Some, None}
 use Rattle.fields.specs.Psw.{psw_prs}
 use Rattle.memory.specs.Address.{as_address}
 use Rattle.memory.specs.declared.address.Address.{Address}
@@ -23,10 +23,10 @@ pub data Asked : Type 0 where
   access : Right → Address → Asked
 
 -- a load's or a store's, at A[a] plus immediate
-abbrev pub data_by : Access → Address → Asked
-data_by data-access.Nothing address = none
-data_by data-access.Read address = access Read address
-data_by data-access.Write address = access Write address
+abbrev pub data_by : Option Access → Address → Asked
+data_by None address = none
+data_by (Some data-access.Read) address = access Read address
+data_by (Some data-access.Write) address = access Write address
 
 abbrev pub data_in : Instruction → List ℕ → Asked
 data_in i a = data_by (access_of i.op) (address_in i a)
@@ -48,7 +48,7 @@ permit_asked core rs none = None
 permit_asked core rs (access right address) = permit_of core rs right address
 
 abbrev pub permits_by : Option ℕ → Option ℕ → Permits
-permits_by f d = record { fetch = f; «data» = d }
+permits_by f d = record { fetch = f; access = d }
 
 -- no range is named
 abbrev pub no_permits : Permits

@@ -15,11 +15,10 @@ use Rattle.registers.specs.Registers.{pc}
 use Rattle.registers.specs.declared.Registers.{Registers}
 use Rattle.events.specs.Traps.{CODE}
 use Rattle.events.specs.declared.trap.Trap.{Trap}
-use Rattle.protection.specs.Range.{ranges_in, no_range, lowest_of, PermittedBy, Lowest}
+use Rattle.protection.specs.Range.{no_range, lowest_of, PermittedBy, Lowest}
 use Rattle.protection.specs.Access.{check_of}
 use Rattle.protection.specs.declared.range.Range.{Range}
 use Rattle.protection.specs.declared.range.Right.TheVariants.{Execute}
-use Rattle.protection.proofs.Ranges.{ranges_at}
 use Rattle.protection.proofs.Searches.{lowest_says, one_of_all, below_upper, onward}
 use Rattle.protection.proofs.Checks.{unasked, allowed, same_check}
 use Rattle.image.specs.Lengths.{length_of, address_after}
@@ -99,25 +98,16 @@ module _ (core : List ℕ) (rs : List Range) (pc most : ℕ) where
   unfolding fetchable_of
   fetch_by_lem p e q = rw (e, ← q)
 
--- the upper bound as the words have it
-module _ (ws core : List ℕ) (address : Address) (k : ℕ) (a : PermittedBy (ranges_in ws) (psw_prs (get_or core 1 0)) Execute address k) where
+-- the range named for a fetch
+module _ (rs : List Range) (core : List ℕ) (address : Address) (k : ℕ) (a : PermittedBy rs (psw_prs (get_or core 1 0)) Execute address k) where
   pub range_below : k < 32
-  range_below = one_of_all (ranges_in ws) (psw_prs (get_or core 1 0)) Execute address k (omega arith) a
+  range_below = one_of_all rs (psw_prs (get_or core 1 0)) Execute address k (omega arith) a
 
-  upper_is : get_or ws (3 * k + 1) 0 ≡ (get_or (ranges_in ws) k no_range).upper
-  upper_is = sym (ap (λ (g : Range). g.upper) (ranges_at ws k range_below))
-
-  pub below_bound : address.0 < get_or ws (3 * k + 1) 0
-  below_bound = rw upper_is (below_upper (ranges_in ws) (psw_prs (get_or core 1 0)) Execute address k a)
-
--- the number below the upper bound of the range named, as the words have it
-module _ (ws core : List ℕ) (pc most k below : ℕ) (p : syscon_proten (get_or core 9 0) ≡ true) (q : Some k ≡ lowest_of (ranges_in ws) (psw_prs (get_or core 1 0)) Execute (as_address pc)) (is : below ≡ records_below (get_or ws (3 * k + 1) 0) pc) where
-  pub fetch_least : (r : ℕ) → r ≡ min below most → r ≡ fetchable_of core (ranges_in ws) pc most
+-- the number below the upper bound of the range named
+module _ (rs : List Range) (core : List ℕ) (pc most k below : ℕ) (p : syscon_proten (get_or core 9 0) ≡ true) (q : Some k ≡ lowest_of rs (psw_prs (get_or core 1 0)) Execute (as_address pc)) (is : below ≡ records_below (get_or rs k no_range).upper pc) where
+  pub fetch_least : (r : ℕ) → r ≡ min below most → r ≡ fetchable_of core rs pc most
   fetch_least r e =
-      let rs = ranges_in ws in
-      let set = psw_prs (get_or core 1 0) in
-      let l : Lowest rs set Execute (as_address pc) (Some k) = subst (Lowest rs set Execute (as_address pc)) (sym q) (lowest_says rs Execute (as_address pc) set) in
-      let same : min below most ≡ fetchable_by rs pc most (Some k) = rw (is, upper_is ws core (as_address pc) k l.one) in
+      let same : min below most ≡ fetchable_by rs pc most (Some k) = rw is in
       e ∙ same ∙ fetch_by_lem core rs pc most (Some k) p q
 
 -- ---- the span at pc

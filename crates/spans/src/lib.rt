@@ -16,8 +16,8 @@ use image::fetch::{InBody, rest_at, rest_long};
 use image::marks::{Guide, bias_of};
 use image::table::read_entry;
 use memory::address::as_address;
-use protection::access::{Check, check_access};
-use protection::range::{Permit, Right, search};
+use protection::access::check_access;
+use protection::range::{Range, Right, search};
 use registers::{CORE, PC, PSW, SYSCON};
 
 // So many records from an address on, from a byte of the image to another, and how many of them are known to be long: all or none. Where none is, also the body's entry, from 1, the index of the span's first record in the body, and what the body's marks stand by.
@@ -33,13 +33,6 @@ pub struct Span {
     pub bias: u32,
 }
 
-// What lies at PC: records, or the fetch's trap.
-#[derive(Clone, Copy)]
-pub enum Ahead {
-    Records(Span),
-    Traps(Trap),
-}
-
 // How many records from pc on begin below an address at least, whatever their lengths.
 fn records_below(upper: u32, pc: u32) -> u32
     requires { pc < upper }
@@ -50,7 +43,7 @@ fn records_below(upper: u32, pc: u32) -> u32
 
 // Of so many records from pc on, how many protection lets be fetched, where it lets the first.
 fn fetchable(core: &[u32; CORE], ranges: &[Range; 32], pc: u32, records: u32) -> u32
-    requires { (check_of core.now ranges.now Right.Execute (as_address pc) ≡ (Ok tt)) × (0 < records) }
+    requires { (check_of core.now ranges.now Right.Execute (as_address pc) ≡ Ok tt) × (0 < records) }
     ensures { result ≡ fetchable_of core.now ranges.now pc records }
 {
     if !fields::syscon::protection(core[SYSCON]) {
@@ -64,11 +57,8 @@ fn fetchable(core: &[u32; CORE], ranges: &[Range; 32], pc: u32, records: u32) ->
     ) {
         None => 1,
         Some(k) => {
-            let below = records_below(ranges[3 * k + 1], pc);
-            if below < records {
-                return below;
-            }
-            records
+            let below = records_below(ranges[k].upper, pc);
+            below.min(records)
         }
     }
 }
@@ -118,7 +108,7 @@ fn span_of(image: &[u8], long: bool, found: InBody, pc: u32, n: u32) -> Span
     }
 }
 
-// What lies at PC.
+// What lies at PC: records, or the fetch's trap.
 pub fn look_ahead(
     image: &[u8],
     guide: Guide,
@@ -130,16 +120,12 @@ pub fn look_ahead(
     ensures { LiesAhead image.now guide.long core.now ranges.now result }
 {
     let pc = core[PC];
-    match check_access(core, ranges, Right::Execute, as_address(pc)) {
-        Err(t) => Err(t),
-        Check::(Ok tt) => {
-            let found = rest_guided(image, guide, marks, pc);
-            let rest = found.rest;
-            if rest.records == 0 {
-                return Err(CODE);
-            }
-            let n = fetchable(core, ranges, pc, rest.records);
-            Ok(span_of(image, guide.long, found, pc, n))
-        }
+    check_access(core, ranges, Right::Execute, as_address(pc))?;
+    let found = rest_guided(image, guide, marks, pc);
+    let rest = found.rest;
+    if rest.records == 0 {
+        return Err(CODE);
     }
+    let n = fetchable(core, ranges, pc, rest.records);
+    Ok(span_of(image, guide.long, found, pc, n))
 }

@@ -10,13 +10,13 @@ use Rattle.permits.proofs.Permitting.{not_fetched, no_record, of_record}
 use Rattle.permits.proofs.permit_data.Goals as goal
 
 pub returns-then-rest-eq0 : goal.returns-then-rest-eq0
-returns-then-rest-eq0 c = no_record _ _ _ _ (sym c.in-Passes.is ∙ rw c.as_address.ensures at c.check_access.ensures) (fetch_none _ _ (sym (ap (λ (x : Rest). x.records) c.rest_of-rest.ensures) ∙ c.if-rest-eq0.true))
+returns-then-rest-eq0 c = no_record _ _ _ _ (sym c.in-Ok.is ∙ rw c.as_address.ensures at c.check_access.ensures) (fetch_none _ _ (sym (ap (λ (x : Rest). x.records) c.rest_of-rest.ensures) ∙ c.if-rest-eq0.true))
 
 pub permit_record-requires : goal.permit_record-requires
-permit_record-requires c = let p = (subst (λ (x : Rest). 0 < x.records) c.rest_of-rest.ensures (omega (arith, c.if-rest-eq0.false))) in let b = rest_bounds _ (image_right c.args.image.now c.requires.0) _ p in subst (λ (x : Rest). (x.at + 8 ≤ length c.args.image.now) × FieldsHold (instruction_at c.args.image.now x.at (get_or c.args.core.now 0 0))) (sym c.rest_of-rest.ensures) (omega (arith, b.inside, p), first_fields _ (image_right c.args.image.now c.requires.0) _ p _)
+permit_record-requires c = let p = (subst (λ (x : Rest). 0 < x.records) c.rest_of-rest.ensures (omega (arith, c.if-rest-eq0.false))) in let b = rest_bounds _ (image_right c.args.image.now c.requires.0) _ p in subst (λ (x : Rest). (x.at + 8 ≤ length c.args.image.now) × FieldsHold (instruction_at c.args.image.now x.at (get_or c.args.registers.now.core 0 0))) (sym c.rest_of-rest.ensures) (omega (arith, b.inside, p), first_fields _ (image_right c.args.image.now c.requires.0) _ p _)
 
-pub returns-in-Fails : goal.returns-in-Fails
-returns-in-Fails c = not_fetched _ _ _ _ _ (sym c.in-Fails.is ∙ rw c.as_address.ensures at c.check_access.ensures)
+pub returns-in_default : goal.returns-in_default
+returns-in_default c = not_fetched _ _ _ _ _ (sym c.in_default.is ∙ rw c.as_address.ensures at c.check_access.ensures)
 
-pub returns-else-rest-eq0 : goal.returns-else-rest-eq0
-returns-else-rest-eq0 c = of_record _ _ _ _ (sym c.in-Passes.is ∙ rw c.as_address.ensures at c.check_access.ensures) _ (fetch_first _ _ (subst (λ (x : Rest). 0 < x.records) c.rest_of-rest.ensures (omega (arith, c.if-rest-eq0.false)))) (rw c.rest_of-rest.ensures at c.permit_record.ensures)
+pub returns : goal.returns
+returns c = of_record _ _ _ _ (sym c.in-Ok.is ∙ rw c.as_address.ensures at c.check_access.ensures) _ (fetch_first _ _ (subst (λ (x : Rest). 0 < x.records) c.rest_of-rest.ensures (omega (arith, c.if-rest-eq0.false)))) (rw c.rest_of-rest.ensures at c.permit_record.ensures)
