@@ -21,7 +21,9 @@ use Rattle.inputs.proofs.Windows.{wrong, overlap, hold, windows_wrong, windows_o
 use Rattle.std.specs.Prelude.{Err, Ok, Result, ⊤}
 use Rattle.inputs.specs.declared.verdict.Refusal.{Refusal}
 use Rattle.image.specs.declared.table.ImageFault.{ImageFault}
+use Rattle.image.specs.declared.table.ImageFault.TheVariants as image
 use Rattle.lists.specs.declared.ListFault.{ListFault}
+use Rattle.lists.specs.declared.ListFault.TheVariants as list
 
 -- ---- rules 1 and 13
 module _ (m : Memory) where
@@ -50,8 +52,8 @@ module _ (m : Memory) where
 module _ (img : List ℕ) where
   contents_by : (c : Result ⊤ ImageFault) → ImageSays img c → ContentsSay img (image_said c)
   contents_by (Ok _) s = s
-  contents_by (Err (Table entry)) s = s
-  contents_by (Err (Record index)) s = s
+  contents_by (Err (image.Table entry)) s = s
+  contents_by (Err (image.Record index)) s = s
 
   pub image_is : (c : Result ⊤ ImageFault) → ImageSays img c → image_of img ≡ c
   image_is c s = image_only img (image_of img) c (image_says img) s
@@ -60,8 +62,8 @@ module _ (img : List ℕ) where
   contents_is (Ok _) s = rw (image_is (Ok tt) s)
   contents_is (Err Window) s = absurd s
   contents_is (Err Overlap) s = absurd s
-  contents_is (Err (Table entry)) s = rw (image_is (Err (Table entry)) s)
-  contents_is (Err (Record index)) s = rw (image_is (Err (Record index)) s)
+  contents_is (Err (Table entry)) s = rw (image_is (Err (image.Table entry)) s)
+  contents_is (Err (Record index)) s = rw (image_is (Err (image.Record index)) s)
   contents_is (Err OddPc) s = absurd s
   contents_is (Err LinkOutside) s = absurd s
   contents_is (Err MetAgain) s = absurd s
@@ -95,8 +97,8 @@ module _ (pc : ℕ) where
 module _ (m : Memory) (fcx pcxi : ℕ) where
   lists_by : WindowsHold m → (e : Result ⊤ ListFault) → ListsCome m fcx pcxi e → ListsSay m fcx pcxi (lists_said e)
   lists_by w (Ok _) c = (w, sound_of m (windows_small m w) fcx pcxi c)
-  lists_by w (Err LinkOutside) c = (w, c)
-  lists_by w (Err MetAgain) c = (w, c)
+  lists_by w (Err list.LinkOutside) c = (w, c)
+  lists_by w (Err list.MetAgain) c = (w, c)
 
   lists_say : ListsSay m fcx pcxi (lists_verdict m fcx pcxi)
   lists_say = by (come_of m)
@@ -122,8 +124,8 @@ module _ (m : Memory) (fcx pcxi : ℕ) where
   lists_is (Err (Table entry)) s = absurd s
   lists_is (Err (Record index)) s = absurd s
   lists_is (Err OddPc) s = absurd s
-  lists_is (Err LinkOutside) (w, c) = ends w (Err LinkOutside) c
-  lists_is (Err MetAgain) (w, c) = ends w (Err MetAgain) c
+  lists_is (Err LinkOutside) (w, c) = ends w (Err list.LinkOutside) c
+  lists_is (Err MetAgain) (w, c) = ends w (Err list.MetAgain) c
 
   pub lists_verdict_exactly : (r : Result ⊤ Refusal) → r ≡ lists_verdict m fcx pcxi → (r ≡ lists_verdict m fcx pcxi) × Exactly (ListsSay m fcx pcxi) r
   lists_verdict_exactly = exactly (ListsSay m fcx pcxi) (lists_verdict m fcx pcxi) lists_say lists_is

@@ -4,6 +4,7 @@ use Rattle.memory.specs.Memory.{Memory, first_length, second_length}
 use Rattle.memory.specs.declared.address.Address.{Address}
 use Rattle.lists.specs.Lists.{Sound, ListsCome}
 use Rattle.image.specs.Rules.{ImageRight, TableFault, RecordFault}
+use Rattle.lists.specs.declared.ListFault.TheVariants as list
 use Rattle.inputs.specs.declared.verdict.Refusal.TheVariants.{Window, Overlap, Table, Record, OddPc, LinkOutside, MetAgain}
 use Rattle.inputs.specs.declared.verdict.Refusal.{Refusal}
 
@@ -94,8 +95,8 @@ ListsSay m fcx pcxi (Err Overlap) = RightOf m × (ApartOf m → ⊥)
 ListsSay m fcx pcxi (Err (Table entry)) = ⊥
 ListsSay m fcx pcxi (Err (Record index)) = ⊥
 ListsSay m fcx pcxi (Err OddPc) = ⊥
-ListsSay m fcx pcxi (Err LinkOutside) = WindowsHold m × ListsCome m fcx pcxi (Err LinkOutside)
-ListsSay m fcx pcxi (Err MetAgain) = WindowsHold m × ListsCome m fcx pcxi (Err MetAgain)
+ListsSay m fcx pcxi (Err LinkOutside) = WindowsHold m × ListsCome m fcx pcxi (Err list.LinkOutside)
+ListsSay m fcx pcxi (Err MetAgain) = WindowsHold m × ListsCome m fcx pcxi (Err list.MetAgain)
 
 -- of rules 1, 13 and 2 to 4, in their order
 abbrev pub StepSays : Memory → List ℕ → ℕ → Result ⊤ Refusal → Type 0
@@ -116,5 +117,5 @@ StartSays m img pc fcx pcxi (Err Overlap) = RightOf m × (ApartOf m → ⊥)
 StartSays m img pc fcx pcxi (Err (Table entry)) = WindowsHold m × TableFault img entry
 StartSays m img pc fcx pcxi (Err (Record index)) = WindowsHold m × RecordFault img index
 StartSays m img pc fcx pcxi (Err OddPc) = WindowsHold m × ImageRight img × (Even pc → ⊥)
-StartSays m img pc fcx pcxi (Err LinkOutside) = StepRight m img pc × ListsCome m fcx pcxi (Err LinkOutside)
-StartSays m img pc fcx pcxi (Err MetAgain) = StepRight m img pc × ListsCome m fcx pcxi (Err MetAgain)
+StartSays m img pc fcx pcxi (Err LinkOutside) = StepRight m img pc × ListsCome m fcx pcxi (Err list.LinkOutside)
+StartSays m img pc fcx pcxi (Err MetAgain) = StepRight m img pc × ListsCome m fcx pcxi (Err list.MetAgain)
