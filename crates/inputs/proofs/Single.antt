@@ -51,7 +51,7 @@ module _ (m : Memory) where
 -- ---- rules 2 and 3
 module _ (img : List ℕ) where
   contents_by : (c : Result ⊤ ImageFault) → ImageSays img c → ContentsSay img (image_said c)
-  contents_by (Ok _) s = s
+  contents_by (Ok x) s = s
   contents_by (Err (image.Table entry)) s = s
   contents_by (Err (image.Record index)) s = s
 
