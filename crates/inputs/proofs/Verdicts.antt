@@ -68,8 +68,7 @@ module _ (m : Memory) (img : List ℕ) (pc : ℕ) where
   step_is (Err (Table entry)) (w, s) = passed w ∙ rw (image_is img (Err (image.Table entry)) s)
   step_is (Err (Record index)) (w, s) = passed w ∙ rw (image_is img (Err (image.Record index)) s)
   step_is (Err OddPc) (w, s, d) = passed w ∙ rw (image_is img (Ok tt) s, ne_eqb (pc % 2) 0 d)
-  step_is (Err LinkOutside) s = absurd s
-  step_is (Err MetAgain) s = absurd s
+  step_is (Err _) s = absurd s
 
   pub step_exactly : (r : Result ⊤ Refusal) → r ≡ step_verdict m img pc → (r ≡ step_verdict m img pc) × Exactly (StepSays m img pc) r
   step_exactly = exactly (StepSays m img pc) (step_verdict m img pc) step_says (λ v s. sym (step_is v s))
@@ -95,8 +94,7 @@ module _ (m : Memory) (img : List ℕ) (pc fcx pcxi : ℕ) where
   from_step (Table entry) s = s
   from_step (Record index) s = s
   from_step OddPc s = s
-  from_step LinkOutside s = absurd s
-  from_step MetAgain s = absurd s
+  from_step _ s = absurd s
 
   -- the verdict is what the rules say
   pub start_says : StartSays m img pc fcx pcxi (start_verdict m img pc fcx pcxi)

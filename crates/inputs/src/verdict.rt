@@ -18,6 +18,7 @@ pub enum Refusal {
     MetAgain,
 }
 
+// Rules 2 and 3.
 impl From<ImageFault> for Refusal {
     ghost from_gives = { λ fault refusal. refusal ≡ image_refusal fault };
 
@@ -29,6 +30,7 @@ impl From<ImageFault> for Refusal {
     }
 }
 
+// Rules 5 and 6.
 impl From<ListFault> for Refusal {
     ghost from_gives = { λ fault refusal. refusal ≡ lists_refusal fault };
 
