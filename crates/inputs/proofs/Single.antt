@@ -21,7 +21,9 @@ use Rattle.inputs.proofs.Windows.{wrong, overlap, hold, windows_wrong, windows_o
 use Rattle.std.specs.Prelude.{Err, Ok, Result, ⊤}
 use Rattle.inputs.specs.declared.verdict.Refusal.{Refusal}
 use Rattle.image.specs.declared.table.ImageFault.{ImageFault}
+use Rattle.image.specs.declared.table.ImageFault.TheVariants as image
 use Rattle.lists.specs.declared.ListFault.{ListFault}
+use Rattle.lists.specs.declared.ListFault.TheVariants as list
 
 -- ---- rules 1 and 13
 module _ (m : Memory) where
@@ -37,11 +39,7 @@ module _ (m : Memory) where
   windows_is (Ok _) w = sym (windows_hold _ _ _ _ w.right w.apart)
   windows_is (Err Window) d = sym (windows_wrong _ _ _ _ d)
   windows_is (Err Overlap) (r, d) = sym (windows_overlap _ _ _ _ r d)
-  windows_is (Err (Table entry)) s = absurd s
-  windows_is (Err (Record index)) s = absurd s
-  windows_is (Err OddPc) s = absurd s
-  windows_is (Err LinkOutside) s = absurd s
-  windows_is (Err MetAgain) s = absurd s
+  windows_is (Err _) s = absurd s
 
   pub windows_exactly : (r : Result ⊤ Refusal) → r ≡ window_verdict m → (r ≡ window_verdict m) × Exactly (WindowsSay m) r
   windows_exactly = exactly (WindowsSay m) (window_verdict m) windows_say windows_is
@@ -49,22 +47,18 @@ module _ (m : Memory) where
 -- ---- rules 2 and 3
 module _ (img : List ℕ) where
   contents_by : (c : Result ⊤ ImageFault) → ImageSays img c → ContentsSay img (image_said c)
-  contents_by (Ok _) s = s
-  contents_by (Err (Table entry)) s = s
-  contents_by (Err (Record index)) s = s
+  contents_by (Ok x) s = s
+  contents_by (Err (image.Table entry)) s = s
+  contents_by (Err (image.Record index)) s = s
 
   pub image_is : (c : Result ⊤ ImageFault) → ImageSays img c → image_of img ≡ c
   image_is c s = image_only img (image_of img) c (image_says img) s
 
   contents_is : (v : Result ⊤ Refusal) → ContentsSay img v → v ≡ image_verdict img
   contents_is (Ok _) s = rw (image_is (Ok tt) s)
-  contents_is (Err Window) s = absurd s
-  contents_is (Err Overlap) s = absurd s
-  contents_is (Err (Table entry)) s = rw (image_is (Err (Table entry)) s)
-  contents_is (Err (Record index)) s = rw (image_is (Err (Record index)) s)
-  contents_is (Err OddPc) s = absurd s
-  contents_is (Err LinkOutside) s = absurd s
-  contents_is (Err MetAgain) s = absurd s
+  contents_is (Err (Table entry)) s = rw (image_is (Err (image.Table entry)) s)
+  contents_is (Err (Record index)) s = rw (image_is (Err (image.Record index)) s)
+  contents_is (Err _) s = absurd s
 
   pub contents_exactly : (r : Result ⊤ Refusal) → r ≡ image_verdict img → (r ≡ image_verdict img) × Exactly (ContentsSay img) r
   contents_exactly = exactly (ContentsSay img) (image_verdict img) (contents_by (image_of img) (image_says img)) contents_is
@@ -80,13 +74,8 @@ module _ (pc : ℕ) where
 
   pc_is : (v : Result ⊤ Refusal) → PcSays pc v → v ≡ pc_verdict pc
   pc_is (Ok _) e = rw (eq-eqb (pc % 2) 0 e)
-  pc_is (Err Window) s = absurd s
-  pc_is (Err Overlap) s = absurd s
-  pc_is (Err (Table entry)) s = absurd s
-  pc_is (Err (Record index)) s = absurd s
   pc_is (Err OddPc) d = rw (ne_eqb (pc % 2) 0 d)
-  pc_is (Err LinkOutside) s = absurd s
-  pc_is (Err MetAgain) s = absurd s
+  pc_is (Err _) s = absurd s
 
   pub pc_exactly : (r : Result ⊤ Refusal) → r ≡ pc_verdict pc → (r ≡ pc_verdict pc) × Exactly (PcSays pc) r
   pc_exactly = exactly (PcSays pc) (pc_verdict pc) pc_says pc_is
@@ -95,8 +84,8 @@ module _ (pc : ℕ) where
 module _ (m : Memory) (fcx pcxi : ℕ) where
   lists_by : WindowsHold m → (e : Result ⊤ ListFault) → ListsCome m fcx pcxi e → ListsSay m fcx pcxi (lists_said e)
   lists_by w (Ok _) c = (w, sound_of m (windows_small m w) fcx pcxi c)
-  lists_by w (Err LinkOutside) c = (w, c)
-  lists_by w (Err MetAgain) c = (w, c)
+  lists_by w (Err list.LinkOutside) c = (w, c)
+  lists_by w (Err list.MetAgain) c = (w, c)
 
   lists_say : ListsSay m fcx pcxi (lists_verdict m fcx pcxi)
   lists_say = by (come_of m)
@@ -119,11 +108,9 @@ module _ (m : Memory) (fcx pcxi : ℕ) where
   lists_is (Ok _) (w, s) = ends w (Ok tt) (of_sound m (windows_small m w) fcx pcxi s)
   lists_is (Err Window) d = rw (← windows_is m (Err Window) d)
   lists_is (Err Overlap) s = rw (← windows_is m (Err Overlap) s)
-  lists_is (Err (Table entry)) s = absurd s
-  lists_is (Err (Record index)) s = absurd s
-  lists_is (Err OddPc) s = absurd s
-  lists_is (Err LinkOutside) (w, c) = ends w (Err LinkOutside) c
-  lists_is (Err MetAgain) (w, c) = ends w (Err MetAgain) c
+  lists_is (Err LinkOutside) (w, c) = ends w (Err list.LinkOutside) c
+  lists_is (Err MetAgain) (w, c) = ends w (Err list.MetAgain) c
+  lists_is (Err _) s = absurd s
 
   pub lists_verdict_exactly : (r : Result ⊤ Refusal) → r ≡ lists_verdict m fcx pcxi → (r ≡ lists_verdict m fcx pcxi) × Exactly (ListsSay m fcx pcxi) r
   lists_verdict_exactly = exactly (ListsSay m fcx pcxi) (lists_verdict m fcx pcxi) lists_say lists_is

@@ -84,7 +84,7 @@ module _ (base : Address) (len : ℕ) (base2 : Address) (len2 : ℕ) where
   pub data WindowsCome (v : Result ⊤ Refusal) : Type 0 where
     wrong : v ≡ Err Window → (WindowsRight base len base2 len2 → ⊥) → WindowsCome v
     overlap : v ≡ Err Overlap → WindowsRight base len base2 len2 → (WindowsApart base len base2 len2 → ⊥) → WindowsCome v
-    hold : v ≡ (Ok tt) → WindowsRight base len base2 len2 → WindowsApart base len base2 len2 → WindowsCome v
+    hold : v ≡ Ok tt → WindowsRight base len base2 len2 → WindowsApart base len base2 len2 → WindowsCome v
 
   windows_come : WindowsCome (windows_verdict base len base2 len2)
   unfolding windows_verdict
@@ -115,10 +115,10 @@ module _ (base : Address) (len : ℕ) (base2 : Address) (len2 : ℕ) where
       by (overlap e q x) = e
       by (hold e q x) = absurd (d x)
 
-  pub windows_hold : WindowsRight base len base2 len2 → WindowsApart base len base2 len2 → windows_verdict base len base2 len2 ≡ (Ok tt)
+  pub windows_hold : WindowsRight base len base2 len2 → WindowsApart base len base2 len2 → windows_verdict base len base2 len2 ≡ Ok tt
   windows_hold r a = by windows_come
     where
-      by : WindowsCome (windows_verdict base len base2 len2) → windows_verdict base len base2 len2 ≡ (Ok tt)
+      by : WindowsCome (windows_verdict base len base2 len2) → windows_verdict base len base2 len2 ≡ Ok tt
       by (wrong e x) = absurd (x r)
       by (overlap e q x) = absurd (x a)
       by (hold e q x) = e

@@ -1,11 +1,11 @@
 -- The checks, in document 01's order: rules 1, 13 and 2 to 4 for a step or a run, all seven for a start.
-use Rattle.std.specs.Prelude.{ℕ, ◌+◌, ◌/◌, ◌%◌, ◌^◌, Bool, false, cond, ◌&&◌, ◌||◌, List, length, leb, eqb, Err, Ok, Result, ⊤}
+use Rattle.std.specs.Prelude.{ℕ, ◌+◌, ◌/◌, ◌%◌, ◌^◌, Bool, cond, ◌&&◌, ◌||◌, List, length, leb, eqb, Err, Ok, Result, ⊤}
 use Rattle.memory.specs.Memory.{Memory, first_length, second_length}
 use Rattle.memory.specs.declared.address.Address.{Address}
 use Rattle.lists.specs.Walk.{lists_of}
 use Rattle.image.specs.Records.{image_of}
-use Rattle.image.specs.Marks.{long_only}
-use Rattle.inputs.specs.declared.verdict.Refusal.TheVariants.{Window, Overlap, Table, Record, OddPc, LinkOutside, MetAgain}
+use Rattle.inputs.specs.Verdict.{image_refusal, lists_refusal}
+use Rattle.inputs.specs.declared.verdict.Refusal.TheVariants.{Window, Overlap, OddPc}
 use Rattle.inputs.specs.declared.verdict.Refusal.{Refusal}
 use Rattle.image.specs.declared.table.ImageFault.{ImageFault}
 use Rattle.lists.specs.declared.ListFault.{ListFault}
@@ -44,8 +44,7 @@ window_verdict m =
 -- 2 and 3
 abbrev pub image_said : Result ⊤ ImageFault → Result ⊤ Refusal
 image_said (Ok _) = Ok tt
-image_said (Err (Table entry)) = Err (Table entry)
-image_said (Err (Record index)) = Err (Record index)
+image_said (Err f) = Err (image_refusal f)
 
 abbrev pub image_verdict : List ℕ → Result ⊤ Refusal
 image_verdict img = image_said (image_of img)
@@ -57,8 +56,7 @@ pc_verdict pc = cond (eqb (pc % 2) 0) (Ok tt) (Err OddPc)
 -- 5 and 6, of windows that rules 1 and 13 accept
 abbrev pub lists_said : Result ⊤ ListFault → Result ⊤ Refusal
 lists_said (Ok _) = Ok tt
-lists_said (Err LinkOutside) = Err LinkOutside
-lists_said (Err MetAgain) = Err MetAgain
+lists_said (Err f) = Err (lists_refusal f)
 
 abbrev pub lists_verdict : Memory → ℕ → ℕ → Result ⊤ Refusal
 lists_verdict m fcx pcxi = and_then (window_verdict m) (lists_said (lists_of m fcx pcxi))
@@ -70,8 +68,3 @@ step_verdict m img pc = and_then (window_verdict m) (and_then (image_verdict img
 -- what a start is tried with
 unfoldable pub start_verdict : Memory → List ℕ → ℕ → ℕ → ℕ → Result ⊤ Refusal
 start_verdict m img pc fcx pcxi = and_then (step_verdict m img pc) (lists_said (lists_of m fcx pcxi))
-
--- whether an image has no short form is told where the input is accepted
-abbrev pub long_told : List ℕ → Result ⊤ Refusal → Bool
-long_told img (Ok _) = long_only img
-long_told img (Err r) = false

@@ -4,6 +4,7 @@ use Rattle.memory.specs.Memory.{Memory, first_length, second_length}
 use Rattle.memory.specs.declared.address.Address.{Address}
 use Rattle.lists.specs.Lists.{Sound, ListsCome}
 use Rattle.image.specs.Rules.{ImageRight, TableFault, RecordFault}
+use Rattle.lists.specs.declared.ListFault.TheVariants as list
 use Rattle.inputs.specs.declared.verdict.Refusal.TheVariants.{Window, Overlap, Table, Record, OddPc, LinkOutside, MetAgain}
 use Rattle.inputs.specs.declared.verdict.Refusal.{Refusal}
 
@@ -58,44 +59,29 @@ abbrev pub WindowsSay : Memory → Result ⊤ Refusal → Type 0
 WindowsSay m (Ok _) = WindowsHold m
 WindowsSay m (Err Window) = RightOf m → ⊥
 WindowsSay m (Err Overlap) = RightOf m × (ApartOf m → ⊥)
-WindowsSay m (Err (Table entry)) = ⊥
-WindowsSay m (Err (Record index)) = ⊥
-WindowsSay m (Err OddPc) = ⊥
-WindowsSay m (Err LinkOutside) = ⊥
-WindowsSay m (Err MetAgain) = ⊥
+WindowsSay m (Err _) = ⊥
 
 -- of rules 2 and 3
 abbrev pub ContentsSay : List ℕ → Result ⊤ Refusal → Type 0
 ContentsSay img (Ok _) = ImageRight img
-ContentsSay img (Err Window) = ⊥
-ContentsSay img (Err Overlap) = ⊥
 ContentsSay img (Err (Table entry)) = TableFault img entry
 ContentsSay img (Err (Record index)) = RecordFault img index
-ContentsSay img (Err OddPc) = ⊥
-ContentsSay img (Err LinkOutside) = ⊥
-ContentsSay img (Err MetAgain) = ⊥
+ContentsSay img (Err _) = ⊥
 
 -- of rule 4
 abbrev pub PcSays : ℕ → Result ⊤ Refusal → Type 0
 PcSays pc (Ok _) = Even pc
-PcSays pc (Err Window) = ⊥
-PcSays pc (Err Overlap) = ⊥
-PcSays pc (Err (Table entry)) = ⊥
-PcSays pc (Err (Record index)) = ⊥
 PcSays pc (Err OddPc) = Even pc → ⊥
-PcSays pc (Err LinkOutside) = ⊥
-PcSays pc (Err MetAgain) = ⊥
+PcSays pc (Err _) = ⊥
 
 -- of rules 5 and 6, of windows that rules 1 and 13 accept
 abbrev pub ListsSay : Memory → ℕ → ℕ → Result ⊤ Refusal → Type 0
 ListsSay m fcx pcxi (Ok _) = WindowsHold m × Sound m fcx pcxi
 ListsSay m fcx pcxi (Err Window) = RightOf m → ⊥
 ListsSay m fcx pcxi (Err Overlap) = RightOf m × (ApartOf m → ⊥)
-ListsSay m fcx pcxi (Err (Table entry)) = ⊥
-ListsSay m fcx pcxi (Err (Record index)) = ⊥
-ListsSay m fcx pcxi (Err OddPc) = ⊥
-ListsSay m fcx pcxi (Err LinkOutside) = WindowsHold m × ListsCome m fcx pcxi (Err LinkOutside)
-ListsSay m fcx pcxi (Err MetAgain) = WindowsHold m × ListsCome m fcx pcxi (Err MetAgain)
+ListsSay m fcx pcxi (Err LinkOutside) = WindowsHold m × ListsCome m fcx pcxi (Err list.LinkOutside)
+ListsSay m fcx pcxi (Err MetAgain) = WindowsHold m × ListsCome m fcx pcxi (Err list.MetAgain)
+ListsSay m fcx pcxi (Err _) = ⊥
 
 -- of rules 1, 13 and 2 to 4, in their order
 abbrev pub StepSays : Memory → List ℕ → ℕ → Result ⊤ Refusal → Type 0
@@ -105,8 +91,7 @@ StepSays m img pc (Err Overlap) = RightOf m × (ApartOf m → ⊥)
 StepSays m img pc (Err (Table entry)) = WindowsHold m × TableFault img entry
 StepSays m img pc (Err (Record index)) = WindowsHold m × RecordFault img index
 StepSays m img pc (Err OddPc) = WindowsHold m × ImageRight img × (Even pc → ⊥)
-StepSays m img pc (Err LinkOutside) = ⊥
-StepSays m img pc (Err MetAgain) = ⊥
+StepSays m img pc (Err _) = ⊥
 
 -- and of all seven
 abbrev pub StartSays : Memory → List ℕ → ℕ → ℕ → ℕ → Result ⊤ Refusal → Type 0
@@ -116,5 +101,5 @@ StartSays m img pc fcx pcxi (Err Overlap) = RightOf m × (ApartOf m → ⊥)
 StartSays m img pc fcx pcxi (Err (Table entry)) = WindowsHold m × TableFault img entry
 StartSays m img pc fcx pcxi (Err (Record index)) = WindowsHold m × RecordFault img index
 StartSays m img pc fcx pcxi (Err OddPc) = WindowsHold m × ImageRight img × (Even pc → ⊥)
-StartSays m img pc fcx pcxi (Err LinkOutside) = StepRight m img pc × ListsCome m fcx pcxi (Err LinkOutside)
-StartSays m img pc fcx pcxi (Err MetAgain) = StepRight m img pc × ListsCome m fcx pcxi (Err MetAgain)
+StartSays m img pc fcx pcxi (Err LinkOutside) = StepRight m img pc × ListsCome m fcx pcxi (Err list.LinkOutside)
+StartSays m img pc fcx pcxi (Err MetAgain) = StepRight m img pc × ListsCome m fcx pcxi (Err list.MetAgain)

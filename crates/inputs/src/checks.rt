@@ -1,16 +1,15 @@
 // The rules, in order. A check reads what it is lent and changes nothing.
 
-ghost use Rattle.std.specs.Prelude.{◌≡◌, List, ◌++◌, ℕ, ◌≤◌, length};
+ghost use Rattle.std.specs.Prelude.{◌≡◌, ◌++◌, ◌≤◌, length, IfOk};
 ghost use Rattle.memory.specs.Memory.{lent};
 ghost use Rattle.lists.specs.Walk.{lists_of};
-ghost use Rattle.inputs.specs.Checks.{window_holds, second_holds, apart_holds, windows_verdict, window_verdict, and_then, image_said, image_verdict, pc_verdict, lists_said, lists_verdict, step_verdict, start_verdict, long_told};
+ghost use Rattle.inputs.specs.Checks.{window_holds, second_holds, apart_holds, windows_verdict, window_verdict, and_then, image_verdict, pc_verdict, lists_said, lists_verdict, step_verdict, start_verdict};
+ghost use Rattle.image.specs.Records.{without_long};
 ghost use Rattle.image.specs.Marks.{long_only};
 ghost use Rattle.inputs.specs.Rules.{WindowsSay, ContentsSay, PcSays, ListsSay, StepSays, StartSays};
 ghost use Rattle.words.specs.Exactly.{Exactly};
 
-use crate::verdict::{Refusal, Verdict};
-use image::records::ImageCheck;
-use lists::ListEnd;
+use crate::verdict::Refusal;
 use memory::address::Address;
 
 // Rule 1: where a window lies, and its length.
@@ -63,35 +62,26 @@ fn apart_holds(base: Address, len: usize, base2: Address, len2: usize) -> bool
 fn try_windows(base: Address, len: usize, base2: Address, len2: usize) -> Result<(), Refusal>
     ensures { result ≡ windows_verdict base len base2 len2 }
 {
-    if window_holds(base, len) {
-        if second_holds(base2, len2) {
-            if apart_holds(base, len, base2, len2) {
-                return Ok(());
-            }
-            return Err(Refusal::Overlap);
-        }
+    if !window_holds(base, len) || !second_holds(base2, len2) {
         return Err(Refusal::Window);
     }
-    Err(Refusal::Window)
+    if !apart_holds(base, len, base2, len2) {
+        return Err(Refusal::Overlap);
+    }
+    Ok(())
 }
 
 // Rules 1 and 13.
-pub fn check_windows(base: Address, window: &[u8], base2: Address, window2: &[u8]) -> Result<(), Refusal>
+pub fn check_windows(
+    base: Address,
+    window: &[u8],
+    base2: Address,
+    window2: &[u8],
+) -> Result<(), Refusal>
     ensures verdict { (result ≡ window_verdict (lent base window.now base2 window2.now)) × Exactly (WindowsSay (lent base window.now base2 window2.now)) result }
     ensures unchanged { (window.exit.now ≡ window.entry.now) × (window2.exit.now ≡ window2.entry.now) }
 {
     try_windows(base, window.len(), base2, window2.len())
-}
-
-// The answer of the image's check as a verdict.
-fn image_said(check: Result<(), ImageFault>) -> Result<(), Refusal>
-    ensures { result ≡ image_said check }
-{
-    match check {
-        Ok(()) => Ok(()),
-        Err(ImageFault::Table(entry)) => Err(Refusal::Table(entry)),
-        Err(ImageFault::Record(index)) => Err(Refusal::Record(index)),
-    }
 }
 
 // Rules 2 and 3.
@@ -99,17 +89,18 @@ pub fn check_image(image: &[u8]) -> Result<(), Refusal>
     ensures verdict { (result ≡ image_verdict image.now) × Exactly (ContentsSay image.now) result }
     ensures unchanged { image.exit.now ≡ image.entry.now }
 {
-    image_said(image::records::check_image(image))
+    image::records::check_image(image)?;
+    Ok(())
 }
 
 // Rule 4.
 pub fn check_pc(pc: u32) -> Result<(), Refusal>
     ensures { (result ≡ pc_verdict pc) × Exactly (PcSays pc) result }
 {
-    if pc % 2 == 0 {
-        return Ok(());
+    if pc % 2 != 0 {
+        return Err(Refusal::OddPc);
     }
-    Err(Refusal::OddPc)
+    Ok(())
 }
 
 // Rules 5 and 6, of windows that rules 1 and 13 accept: the free list from FCX, then the used one from PCXI.
@@ -124,10 +115,8 @@ pub fn check_lists<'a>(
     ensures verdict { (result ≡ lists_verdict (lent base window.now base2 window2.now) fcx pcxi) × Exactly (ListsSay (lent base window.now base2 window2.now) fcx pcxi) result }
     ensures unchanged { (window.exit.now ≡ window.entry.now) × (window2.exit.now ≡ window2.entry.now) }
 {
-    match check_windows(base, window, base2, window2) {
-        Err(r) => Err(r),
-        Ok(()) => try_lists(base, window, base2, window2, fcx, pcxi),
-    }
+    check_windows(base, window, base2, window2)?;
+    try_lists(base, window, base2, window2, fcx, pcxi)
 }
 
 fn try_lists<'a>(
@@ -141,52 +130,20 @@ fn try_lists<'a>(
     requires { length (window.now ++ window2.now) ≤ 0x2_0000 }
     ensures { result ≡ lists_said (lists_of (lent base window.now base2 window2.now) fcx pcxi) }
 {
-    match lists::check(base, window, base2, window2, fcx, pcxi) {
-        Ok(()) => Ok(()),
-        Err(ListFault::LinkOutside) => Err(Refusal::LinkOutside),
-        Err(ListFault::MetAgain) => Err(Refusal::MetAgain),
-    }
+    lists::check(base, window, base2, window2, fcx, pcxi)?;
+    Ok(())
 }
 
-// A verdict, and of an image that is accepted whether it has no short form.
-#[derive(Clone, Copy)]
-pub struct Tried {
-    pub verdict: Result<(), Refusal>,
-    pub long: bool,
-}
-
-// Of an input that is refused nothing is told.
-fn long_told(v: Result<(), Refusal>, long: bool) -> bool
-    ensures { (img : List ℕ) → long ≡ long_only img → result ≡ long_told img v }
+// Rules 2 to 4; where they hold, whether the image has no short form.
+fn try_code(image: &[u8], pc: u32) -> Result<bool, Refusal>
+    ensures { (without_long result ≡ and_then (image_verdict image.now) (pc_verdict pc)) × IfOk result (λ long. long ≡ long_only image.now) }
 {
-    match v {
-        Ok(()) => long,
-        Err(_) => false,
-    }
+    let long = image::records::scan_image(image)?;
+    check_pc(pc)?;
+    Ok(long)
 }
 
-// Rules 2 to 4.
-fn try_code(image: &[u8], pc: u32) -> Tried
-    ensures { (result.verdict ≡ and_then (image_verdict image.now) (pc_verdict pc)) × (result.long ≡ long_told image.now result.verdict) }
-{
-    let s = image::records::scan_image(image);
-    let check = s.check;
-    match image_said(check) {
-        Err(r) => Tried {
-            verdict: Err(r),
-            long: false,
-        },
-        Ok(()) => {
-            let v = check_pc(pc);
-            Tried {
-                verdict: v,
-                long: long_told(v, s.long),
-            }
-        }
-    }
-}
-
-// Rules 1, 13 and 2 to 4: what a step, or a run from a given state, is tried with. The pass over the records tells of short forms.
+// Rules 1, 13 and 2 to 4: what a step, or a run from a given state, is tried with. Where they hold, whether the image has no short form, which the pass over the records tells.
 pub fn scan_step(
     base: Address,
     window: &[u8],
@@ -194,17 +151,12 @@ pub fn scan_step(
     window2: &[u8],
     image: &[u8],
     pc: u32,
-) -> Tried
-    ensures verdict { (result.verdict ≡ step_verdict (lent base window.now base2 window2.now) image.now pc) × Exactly (StepSays (lent base window.now base2 window2.now) image.now pc) result.verdict × (result.long ≡ long_told image.now result.verdict) }
+) -> Result<bool, Refusal>
+    ensures verdict { (without_long result ≡ step_verdict (lent base window.now base2 window2.now) image.now pc) × Exactly (StepSays (lent base window.now base2 window2.now) image.now pc) (without_long result) × IfOk result (λ long. long ≡ long_only image.now) }
     ensures unchanged { (window.exit.now ≡ window.entry.now) × (window2.exit.now ≡ window2.entry.now) × (image.exit.now ≡ image.entry.now) }
 {
-    match check_windows(base, window, base2, window2) {
-        Err(r) => Tried {
-            verdict: Err(r),
-            long: false,
-        },
-        Ok(()) => try_code(image, pc),
-    }
+    check_windows(base, window, base2, window2)?;
+    try_code(image, pc)
 }
 
 pub fn try_step(
@@ -218,7 +170,8 @@ pub fn try_step(
     ensures verdict { (result ≡ step_verdict (lent base window.now base2 window2.now) image.now pc) × Exactly (StepSays (lent base window.now base2 window2.now) image.now pc) result }
     ensures unchanged { (window.exit.now ≡ window.entry.now) × (window2.exit.now ≡ window2.entry.now) × (image.exit.now ≡ image.entry.now) }
 {
-    scan_step(base, window, base2, window2, image, pc).verdict
+    scan_step(base, window, base2, window2, image, pc)?;
+    Ok(())
 }
 
 // All seven rules: what a start is tried with.
@@ -235,8 +188,6 @@ pub fn try_start<'a>(
     ensures verdict { (result ≡ start_verdict (lent base window.now base2 window2.now) image.now pc fcx pcxi) × Exactly (StartSays (lent base window.now base2 window2.now) image.now pc fcx pcxi) result }
     ensures unchanged { (window.exit.now ≡ window.entry.now) × (window2.exit.now ≡ window2.entry.now) × (image.exit.now ≡ image.entry.now) }
 {
-    match try_step(base, window, base2, window2, image, pc) {
-        Err(r) => Err(r),
-        Ok(()) => try_lists(base, window, base2, window2, fcx, pcxi),
-    }
+    try_step(base, window, base2, window2, image, pc)?;
+    try_lists(base, window, base2, window2, fcx, pcxi)
 }

@@ -1,7 +1,10 @@
-// The answer of a check: accepted, or refused with document 01's number and place.
+// Why an input is refused, with document 01's number and place.
 
 ghost use Rattle.std.specs.Prelude.{◌≡◌};
-ghost use Rattle.inputs.specs.Verdict.{number_of, fault_of};
+ghost use Rattle.inputs.specs.Verdict.{number_of, fault_of, image_refusal, lists_refusal};
+
+use image::table::ImageFault;
+use lists::ListFault;
 
 // The rule at fault: the entry of a table, counted from 1 (0 for the count), the index of a record over all bodies.
 #[derive(Clone, Copy)]
@@ -15,10 +18,28 @@ pub enum Refusal {
     MetAgain,
 }
 
-#[derive(Clone, Copy)]
-pub enum Verdict {
-    Accepted,
-    Refused(Refusal),
+// Rules 2 and 3.
+impl From<ImageFault> for Refusal {
+    ghost from_gives = { λ fault refusal. refusal ≡ image_refusal fault };
+
+    fn from(fault: ImageFault) -> Refusal {
+        match fault {
+            ImageFault::Table(entry) => Refusal::Table(entry),
+            ImageFault::Record(index) => Refusal::Record(index),
+        }
+    }
+}
+
+// Rules 5 and 6.
+impl From<ListFault> for Refusal {
+    ghost from_gives = { λ fault refusal. refusal ≡ lists_refusal fault };
+
+    fn from(fault: ListFault) -> Refusal {
+        match fault {
+            ListFault::LinkOutside => Refusal::LinkOutside,
+            ListFault::MetAgain => Refusal::MetAgain,
+        }
+    }
 }
 
 // The number of the rule.

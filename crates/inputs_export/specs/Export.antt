@@ -8,7 +8,6 @@ use Rattle.inputs.specs.Verdict.{number_of, fault_of}
 use Rattle.inputs.specs.declared.verdict.Refusal.{Refusal}
 use Rattle.image.specs.declared.fetch.Instruction.{Instruction}
 use Rattle.image.specs.declared.table.ImageFault.{ImageFault}
-use Rattle.image.specs.declared.table.ImageFault.TheVariants.{Record, Table}
 
 -- 0 for accepted; else the rule's number, with its place in the high word
 abbrev pub verdict_of : Result ⊤ Refusal → ℕ
@@ -36,8 +35,7 @@ pub record FetchTold (img : List ℕ) (pc n : ℕ) : Type 0 where
 
 abbrev pub fetched_by : Result ⊤ ImageFault → List ℕ → ℕ → ℕ
 fetched_by (Ok _) img pc = fetched_of img pc
-fetched_by (Err (Table entry)) img pc = 0
-fetched_by (Err (Record index)) img pc = 0
+fetched_by (Err f) img pc = 0
 
 -- 0 of an image that is refused, too
 abbrev pub exported_fetch : List ℕ → ℕ → ℕ

@@ -11,9 +11,9 @@ ghost use Rattle.inputs.specs.Checks.{image_verdict, lists_verdict, step_verdict
 ghost use Rattle.inputs.specs.Rules.{ContentsSay, ListsSay, StepSays, StartSays};
 ghost use Rattle.inputs_export.specs.Export.{verdict_of, FetchTells, FetchTold, fetched_of, exported_fetch};
 
-use image::fetch::{Fetched, fetch};
+use image::fetch::fetch;
 use inputs::checks;
-use inputs::verdict::{Verdict, fault, number};
+use inputs::verdict::{Refusal, fault, number};
 use memory::address::as_address;
 
 // 0 for accepted; else the rule's number, and its place in the high word.
@@ -89,9 +89,8 @@ pub extern "C" fn deqbaryn_fetch(image: &[u8], pc: u32) -> u64
     ensures { (result ≡ exported_fetch image.now pc) × FetchTold image.now pc result }
 {
     match image::records::check_image(image) {
-        image::records::Ok(()) => fetched(image, pc),
-        image::records::Err(ImageFault::Table(_)) => 0,
-        image::records::Err(ImageFault::Record(_)) => 0,
+        Ok(()) => fetched(image, pc),
+        Err(_) => 0,
     }
 }
 

@@ -1,7 +1,6 @@
-use mathlib.Core.Path.{refl, ap, ◌∙◌}
-use Rattle.inputs.specs.Checks.{image_said}
+use Rattle.std.proofs.Common.{rules}
 use Rattle.inputs.proofs.Single.{contents_exactly}
 use Rattle.inputs.proofs.checks.check_image.Goals as goal
 
-pub returns : goal.returns
-returns c = record { verdict = contents_exactly _ _ (c.image_said.ensures ∙ ap image_said c.check_image.ensures.0); unchanged = refl }
+pub returns-in_err-check_image-clause-verdict : goal.returns-in_err-check_image-clause-verdict
+returns-in_err-check_image-clause-verdict c = contents_exactly _ _ (rw (← c.check_image.ensures.0, c.in_err-check_image.was) (search rules))
