@@ -5,9 +5,9 @@ use Rattle.events.specs.declared.event.Event.{Event}
 use Rattle.events.specs.declared.event.Event.TheVariants as event
 use Rattle.inputs.specs.Verdict.{number_of, fault_of}
 use Rattle.inputs.specs.declared.verdict.Refusal.{Refusal}
-use Rattle.machine.specs.declared.answer.Outcome.{Outcome}
-use Rattle.machine.specs.declared.answer.Outcome.TheVariants.{Made, Stopped, Refused}
 use Rattle.permits.specs.declared.Permits.{Permits}
+use Rattle.machine.specs.declared.answer.Unmade.{Unmade}
+use Rattle.machine.specs.declared.answer.Unmade.TheVariants.{Refused, Stopped}
 
 -- bits 7:0 the kind, 15:8 the number, 23:16 the TIN, 31:24 the permitting ranges, 63:32 the high word
 unfoldable pub packed_of : ℕ → ℕ → ℕ → ℕ → ℕ → ℕ
@@ -33,10 +33,10 @@ abbrev pub refusal_answer : Refusal → ℕ → ℕ
 refusal_answer x permits = packed_of 4 (number_of x) 0 permits (fault_of x)
 
 -- 3 a stop, with its number
-abbrev pub outcome_answer : Outcome → ℕ → ℕ → ℕ
-outcome_answer (Made e) permits made = event_answer e permits made
-outcome_answer (Stopped s) permits made = packed_of 3 (stop_number s) 0 permits made
-outcome_answer (Refused x) permits made = refusal_answer x permits
+abbrev pub outcome_answer : Result Event Unmade → ℕ → ℕ → ℕ
+outcome_answer (Ok e) permits made = event_answer e permits made
+outcome_answer (Err (Stopped s)) permits made = packed_of 3 (stop_number s) 0 permits made
+outcome_answer (Err (Refused x)) permits made = refusal_answer x permits
 
 -- 5 a record of a wrong length
 abbrev pub wrong_length : ℕ

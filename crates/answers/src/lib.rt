@@ -57,13 +57,13 @@ fn refusal_answer(x: Refusal, permits: u8) -> u64
 }
 
 // Of a step or a run that has made so many steps.
-pub fn outcome_answer(o: Outcome, permits: u8, made: u32) -> u64
+pub fn outcome_answer(o: Result<Event, Unmade>, permits: u8, made: u32) -> u64
     ensures { result ≡ outcome_answer o permits made }
 {
     match o {
-        Outcome::Made(e) => event_answer(e, permits, made),
-        Outcome::Stopped(s) => packed(3, stop_number(s) as u8, 0, permits, made),
-        Outcome::Refused(x) => refusal_answer(x, permits),
+        Ok(e) => event_answer(e, permits, made),
+        Err(Unmade::Stopped(s)) => packed(3, stop_number(s) as u8, 0, permits, made),
+        Err(Unmade::Refused(x)) => refusal_answer(x, permits),
     }
 }
 

@@ -17,8 +17,6 @@ use Rattle.inputs.specs.Rules.{StepSays, StartSays}
 use Rattle.decisions.specs.Valid.{Words}
 use Rattle.machine.specs.Step.{verdict_in, StepOf, stepped, step_of}
 use Rattle.machine.specs.Run.{RunOf, ran, run_of, RefusedKeeps}
-use Rattle.machine.specs.declared.answer.Outcome.{Outcome}
-use Rattle.machine.specs.declared.answer.Outcome.TheVariants.{Made, Stopped, Refused}
 use Rattle.machine.proofs.Unmade.{Unmoved, unmoved, none_made}
 use Rattle.permits.specs.declared.Permits.{Permits}
 use Rattle.series.specs.Calls.{state}
@@ -29,6 +27,9 @@ use Rattle.deqbaryn.specs.Host.{is_record, start_answer, StartTells, Called, cal
 use Rattle.deqbaryn.specs.Calls.{HostFollows, AcceptedFollows}
 use Rattle.std.specs.Prelude.{Err, Ok, Result, ⊤}
 use Rattle.inputs.specs.declared.verdict.Refusal.{Refusal}
+use Rattle.events.specs.declared.event.Event.{Event}
+use Rattle.machine.specs.declared.answer.Unmade.{Unmade}
+use Rattle.machine.specs.declared.answer.Unmade.TheVariants.{Refused, Stopped}
 
 -- only a start that is accepted is answered so
 accepted : (v : Result ⊤ Refusal) → verdict_answer v ≡ verdict_answer (Ok tt) → v ≡ (Ok tt)
@@ -46,15 +47,15 @@ module _ (bytes : List ℕ) (l : length bytes ≡ 616) (q : Registers) (w : Word
   back = registers_back q ys bytes l (w.0.size, w.0.each) (w.1.size, w.1.each) (w.2.size, w.2.each)
 
   module _ {r : Registers} (reg : r ≡ registers_in bytes) (xs : List ℕ) (m after : Memory) where
-    pub step_stored_lem : (img : List ℕ) (rs : List Range) (o : Outcome) (p : Permits) → Unmoved img r xs rs m o (stepped o q ys after p) → registers_in (step_stored o q ys bytes) ≡ q
-    step_stored_lem img rs (Made e) p u = back
-    step_stored_lem img rs (Stopped x) p u = sym (u.registers ∙ reg)
-    step_stored_lem img rs (Refused x) p u = sym (u.registers ∙ reg)
+    pub step_stored_lem : (img : List ℕ) (rs : List Range) (o : Result Event Unmade) (p : Permits) → Unmoved img r xs rs m o (stepped o q ys after p) → registers_in (step_stored o q ys bytes) ≡ q
+    step_stored_lem img rs (Ok e) p u = back
+    step_stored_lem img rs (Err (Stopped x)) p u = sym (u.registers ∙ reg)
+    step_stored_lem img rs (Err (Refused x)) p u = sym (u.registers ∙ reg)
 
-    pub run_stored_lem : (o : Outcome) (made : ℕ) → RefusedKeeps r xs m (ran o made q ys after) → registers_in (run_stored o q ys bytes) ≡ q
-    run_stored_lem (Made e) made u = back
-    run_stored_lem (Stopped x) made u = back
-    run_stored_lem (Refused x) made u = sym (ap (λ (v : RunOf). v.registers) (u x refl) ∙ reg)
+    pub run_stored_lem : (o : Result Event Unmade) (made : ℕ) → RefusedKeeps r xs m (ran o made q ys after) → registers_in (run_stored o q ys bytes) ≡ q
+    run_stored_lem (Ok e) made u = back
+    run_stored_lem (Err (Stopped x)) made u = back
+    run_stored_lem (Err (Refused x)) made u = sym (ap (λ (v : RunOf). v.registers) (u x refl) ∙ reg)
 
 module _ (bytes : List ℕ) (m : Memory) (img : List ℕ) where
   -- ---- a record of another length
@@ -75,7 +76,7 @@ module _ (bytes : List ℕ) (m : Memory) (img : List ℕ) where
     start_right {v} said x follows is =
         (rw (eq-eqb (length bytes) 616 l, ← reg) (is ∙ ap verdict_answer said), (λ _. record { answer = v; number = is; exactly = rw (← reg) x }, λ e. rw (← reg) (follows (accepted v (sym is ∙ e)))))
 
-    module _ {xs : List ℕ} (req : xs ≡ requests_in bytes) {rs : List Range} (rng : rs ≡ ranges_of bytes) {o : Outcome} {q : Registers} {ys : List ℕ} {after : Memory} where
+    module _ {xs : List ℕ} (req : xs ≡ requests_in bytes) {rs : List Range} (rng : rs ≡ ranges_of bytes) {o : Result Event Unmade} {q : Registers} {ys : List ℕ} {after : Memory} where
       module _ {p : Permits} (s : stepped o q ys after p ≡ step_of img r xs rs m) {core : List ℕ} (is : core ≡ step_stored o q ys bytes) where
         step_called_lem : {n : ℕ} → n ≡ outcome_answer o (permits_number p) 0 → called n core after ≡ step_call bytes m img
         step_called_lem e = rw (eq-eqb (length bytes) 616 l, ← reg, ← req, ← rng, ← s, is, e)
@@ -102,10 +103,10 @@ module _ (bytes : List ℕ) (m : Memory) (img : List ℕ) where
 
   -- ---- a run of which no step is made
   module _ (b : (j : ℕ) → get_or bytes j 0 < 2 ^ 8) where
-    stored : (o : Outcome) → run_stored o (registers_in bytes) (requests_in bytes) bytes ≡ bytes
-    stored (Made e) = stored_kept bytes b
-    stored (Stopped s) = stored_kept bytes b
-    stored (Refused x) = refl
+    stored : (o : Result Event Unmade) → run_stored o (registers_in bytes) (requests_in bytes) bytes ≡ bytes
+    stored (Ok e) = stored_kept bytes b
+    stored (Err (Stopped s)) = stored_kept bytes b
+    stored (Err (Refused x)) = refl
 
     pub run_kept : (k : ℕ) {n : ℕ} {core : List ℕ} {after : Memory} → called n core after ≡ run_call k bytes m img → UnmadeKeeps k bytes m img core after
     run_kept k is z = let h = by (is_record bytes) in (ap (λ (x : Called). x.core) is ∙ h.0, ap (λ (x : Called). x.memory) is ∙ h.1)

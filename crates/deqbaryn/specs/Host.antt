@@ -1,5 +1,5 @@
 -- What the functions answer, and what they leave of the core record and the windows. A record of another length than 616 is answered as such, with all as before.
-use Rattle.std.specs.Prelude.{ℕ, ◌≡◌, Bool, cond, List, length, eqb}
+use Rattle.std.specs.Prelude.{ℕ, ◌≡◌, Bool, cond, List, length, eqb, Err, Ok, Result}
 use Rattle.memory.specs.Memory.{Memory}
 use Rattle.registers.specs.Registers.{pc, fcx, pcxi}
 use Rattle.registers.specs.declared.Registers.{Registers}
@@ -8,10 +8,11 @@ use Rattle.inputs.specs.Checks.{start_verdict}
 use Rattle.inputs.specs.Rules.{StepSays, StartSays}
 use Rattle.machine.specs.Step.{verdict_in, StepOf, step_of}
 use Rattle.machine.specs.Run.{RunOf, run_of}
-use Rattle.machine.specs.declared.answer.Outcome.{Outcome}
-use Rattle.machine.specs.declared.answer.Outcome.TheVariants.{Made, Stopped, Refused}
 use Rattle.records.specs.CoreRecord.{registers_in, requests_in, ranges_of, stored_in}
 use Rattle.answers.specs.Answers.{permits_number, outcome_answer, wrong_length, verdict_answer}
+use Rattle.events.specs.declared.event.Event.{Event}
+use Rattle.machine.specs.declared.answer.Unmade.{Unmade}
+use Rattle.machine.specs.declared.answer.Unmade.TheVariants.{Refused, Stopped}
 
 -- the version of the host's interface
 abbrev pub version : ℕ
@@ -41,16 +42,16 @@ abbrev pub called : ℕ → List ℕ → Memory → Called
 called n bytes m = record { answer = n; core = bytes; memory = m }
 
 -- the record after a step: a refusal and a stop leave it as it was
-abbrev pub step_stored : Outcome → Registers → List ℕ → List ℕ → List ℕ
-step_stored (Made e) r xs bytes = stored_in r xs bytes
-step_stored (Stopped s) r xs bytes = bytes
-step_stored (Refused x) r xs bytes = bytes
+abbrev pub step_stored : Result Event Unmade → Registers → List ℕ → List ℕ → List ℕ
+step_stored (Ok e) r xs bytes = stored_in r xs bytes
+step_stored (Err (Stopped s)) r xs bytes = bytes
+step_stored (Err (Refused x)) r xs bytes = bytes
 
 -- and after a run, which stores what its last step made left
-abbrev pub run_stored : Outcome → Registers → List ℕ → List ℕ → List ℕ
-run_stored (Made e) r xs bytes = stored_in r xs bytes
-run_stored (Stopped s) r xs bytes = stored_in r xs bytes
-run_stored (Refused x) r xs bytes = bytes
+abbrev pub run_stored : Result Event Unmade → Registers → List ℕ → List ℕ → List ℕ
+run_stored (Ok e) r xs bytes = stored_in r xs bytes
+run_stored (Err (Stopped s)) r xs bytes = stored_in r xs bytes
+run_stored (Err (Refused x)) r xs bytes = bytes
 
 -- ---- a step of the machine in the record
 abbrev pub step_on : List ℕ → Memory → List ℕ → StepOf

@@ -49,26 +49,26 @@ pub extern "C" fn deqbaryn_start<'a>(
 }
 
 // A refused or stopped step leaves the record as it was.
-fn store_step(core: &mut [u8], outcome: Outcome, registers: Registers, requests: [u32; 16])
+fn store_step(core: &mut [u8], outcome: Result<Event, Unmade>, registers: Registers, requests: [u32; 16])
     requires { length core.old ≡ 616 }
     ensures { core.new ≡ step_stored outcome registers requests core.old }
 {
     match outcome {
-        Outcome::Made(_) => write_back(core, registers, requests),
-        Outcome::Stopped(_) => {}
-        Outcome::Refused(_) => {}
+        Ok(_) => write_back(core, registers, requests),
+        Err(Unmade::Stopped(_)) => {}
+        Err(Unmade::Refused(_)) => {}
     }
 }
 
 // A run that stops leaves the record as its last step made left it.
-fn store_run(core: &mut [u8], outcome: Outcome, registers: Registers, requests: [u32; 16])
+fn store_run(core: &mut [u8], outcome: Result<Event, Unmade>, registers: Registers, requests: [u32; 16])
     requires { length core.old ≡ 616 }
     ensures { core.new ≡ run_stored outcome registers requests core.old }
 {
     match outcome {
-        Outcome::Made(_) => write_back(core, registers, requests),
-        Outcome::Stopped(_) => write_back(core, registers, requests),
-        Outcome::Refused(_) => {}
+        Ok(_) => write_back(core, registers, requests),
+        Err(Unmade::Stopped(_)) => write_back(core, registers, requests),
+        Err(Unmade::Refused(_)) => {}
     }
 }
 

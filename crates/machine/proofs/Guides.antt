@@ -1,13 +1,10 @@
 -- What is known of an image before a run.
 -- Assumes nothing.
-use Rattle.std.proofs.Common.{◌≡◌, ℕ, Bool, true, false, List, replicate, sym}
+use Rattle.std.proofs.Common.{◌≡◌, ℕ, true, false, List, replicate, sym}
 use Rattle.words.proofs.Truth.{never}
 use Rattle.image.specs.Marks.{long_only, MarksHold, Guides}
 use Rattle.image.specs.declared.marks.Guide.{Guide}
 use Rattle.image.proofs.Marking.{no_marks}
-use Rattle.inputs.specs.Checks.{long_told}
-use Rattle.std.specs.Prelude.{Ok, Result, ⊤}
-use Rattle.inputs.specs.declared.verdict.Refusal.{Refusal}
 
 -- whether it has short forms, and no marks
 pub unmarked : (img : List ℕ) (g : Guide) → (g.long ≡ true → long_only img ≡ true) → Guides img g (replicate 1 0)
@@ -16,7 +13,3 @@ unmarked img g h = record { all_long = h; marks_hold = no_marks img 1 }
 -- its marks
 pub marked : (img marks : List ℕ) (g : Guide) → g.long ≡ false → MarksHold img marks → Guides img g marks
 marked img marks g f h = record { all_long = λ e. absurd (never (rw f at (sym e))); marks_hold = h }
-
--- what the check of an accepted image told
-pub told_long : (img : List ℕ) (v : Result ⊤ Refusal) (long : Bool) → long ≡ long_told img v → v ≡ (Ok tt) → long ≡ true → long_only img ≡ true
-told_long img v long e a h = rw (a, h) at (sym e)

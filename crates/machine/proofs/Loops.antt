@@ -18,10 +18,10 @@ use Rattle.decisions.specs.Decision.{one_of}
 use Rattle.decisions.proofs.Beginnings.{taken_one, taken_requests}
 use Rattle.machine.specs.Run.{RunOf, ran, run_from}
 use Rattle.machine.specs.Inner.{foremost_of, Ready, left_by, Paces}
-use Rattle.machine.specs.declared.answer.Outcome.TheVariants.{Made, Stopped}
 use Rattle.machine.specs.declared.instructions.Paced.{Paced}
 use Rattle.machine.proofs.Turns.{ready_next, run_made, run_stopped, run_end, off}
 use Rattle.std.specs.Prelude.{Err, Ok}
+use Rattle.machine.specs.declared.answer.Unmade.TheVariants.{Stopped}
 
 -- ---- the source that n steps begin with, by cases
 module _ (n icr : ℕ) (xs : List ℕ) where
@@ -54,14 +54,14 @@ module _ (n icr : ℕ) (xs : List ℕ) where
 -- ---- the run that is to be made: n steps from r₀, xs₀ and m₀
 module _ (n : ℕ) (img : List ℕ) (rs : List Range) (r₀ : Registers) (xs₀ : List ℕ) (m₀ : Memory) where
   abbrev Whole : RunOf
-  Whole = run_from n img rs (Made event.Instruction) 0 r₀ xs₀ m₀
+  Whole = run_from n img rs (Ok event.Instruction) 0 r₀ xs₀ m₀
 
   -- with `left` steps to make
   pub record Turn (left : ℕ) (last : Event) (r : Registers) (xs : List ℕ) (m : Memory) (best : Best) : Type 0 where
     pub ready : Ready img r m
     pub best_is : (best ≡ best_of xs) ⊎ ((n ≡ 1) × (left ≡ n → icr_ie (icr r) ≡ false))
     pub most : left ≤ n
-    pub run : run_from left img rs (Made last) (n - left) r xs m ≡ run_from n img rs (Made event.Instruction) 0 r₀ xs₀ m₀
+    pub run : run_from left img rs (Ok last) (n - left) r xs m ≡ run_from n img rs (Ok event.Instruction) 0 r₀ xs₀ m₀
 
   pub turn_first : (best : Best) → Ready img r₀ m₀ → best ≡ foremost_of n (icr r₀) xs₀ → Turn n event.Instruction r₀ xs₀ m₀ best
   turn_first best y b =
@@ -91,8 +91,8 @@ module _ (n : ℕ) (img : List ℕ) (rs : List Range) (r₀ : Registers) (xs₀ 
     before : left ≡ suc (left - 1)
     before = omega arith
 
-    whole : run_from (suc (left - 1)) img rs (Made last) (n - left) r xs m ≡ run_from n img rs (Made event.Instruction) 0 r₀ xs₀ m₀
-    whole = subst (λ (l : ℕ). run_from l img rs (Made last) (n - left) r xs m ≡ run_from n img rs (Made event.Instruction) 0 r₀ xs₀ m₀) before t.run
+    whole : run_from (suc (left - 1)) img rs (Ok last) (n - left) r xs m ≡ run_from n img rs (Ok event.Instruction) 0 r₀ xs₀ m₀
+    whole = subst (λ (l : ℕ). run_from l img rs (Ok last) (n - left) r xs m ≡ run_from n img rs (Ok event.Instruction) 0 r₀ xs₀ m₀) before t.run
 
     -- ---- an interrupt
     module _ (p : takes (icr r) best.level ≡ true) {v : MadeOf} (is : v ≡ enter_of (cause.Interrupt best.source best.level) r m) where
@@ -111,18 +111,18 @@ module _ (n : ℕ) (img : List ℕ) (rs : List Range) (r₀ : Registers) (xs₀ 
             ready = ready_next t.ready xs rs v one;
             best_is = inl b;
             most = omega arith;
-            run = rw (← z, q) (run_made t.ready xs rs v one (left - 1) (n - left) (Made last) e f) ∙ whole;
+            run = rw (← z, q) (run_made t.ready xs rs v one (left - 1) (n - left) (Ok last) e f) ∙ whole;
           }
 
-      pub stop_interrupt : (s : Stop) → v.ending ≡ Err s → ran (Stopped s) (n - left) v.registers xs v.memory ≡ run_from n img rs (Made event.Instruction) 0 r₀ xs₀ m₀
-      stop_interrupt s f = run_stopped t.ready xs rs v one (left - 1) (n - left) (Made last) s f ∙ whole
+      pub stop_interrupt : (s : Stop) → v.ending ≡ Err s → ran (Err (Stopped s)) (n - left) v.registers xs v.memory ≡ run_from n img rs (Ok event.Instruction) 0 r₀ xs₀ m₀
+      stop_interrupt s f = run_stopped t.ready xs rs v one (left - 1) (n - left) (Ok last) s f ∙ whole
 
     -- ---- instructions
     module _ (p : takes (icr r) best.level ≡ false) {x : Paced} {q : Registers} {w : Memory} (a : Paces left img rs r m x q w) where
       made : n - left + (left - x.left) ≡ n - x.left
       made = let l = t.most in let k = a.most in omega arith
 
-      rest : left_by x.ending x.left img rs (n - x.left) q xs w ≡ run_from n img rs (Made event.Instruction) 0 r₀ xs₀ m₀
+      rest : left_by x.ending x.left img rs (n - x.left) q xs w ≡ run_from n img rs (Ok event.Instruction) 0 r₀ xs₀ m₀
       rest = rw made at (a.run xs (not_taken p) last (n - left)) ∙ t.run
 
       pub turn_instructions : (e : Event) → x.ending ≡ Ok e → Turn x.left e q xs w best
@@ -136,10 +136,10 @@ module _ (n : ℕ) (img : List ℕ) (rs : List Range) (r₀ : Registers) (xs₀ 
             run = rw f at rest;
           }
 
-      pub stop_instructions : (s : Stop) → x.ending ≡ Err s → ran (Stopped s) (n - x.left) q xs w ≡ run_from n img rs (Made event.Instruction) 0 r₀ xs₀ m₀
+      pub stop_instructions : (s : Stop) → x.ending ≡ Err s → ran (Err (Stopped s)) (n - x.left) q xs w ≡ run_from n img rs (Ok event.Instruction) 0 r₀ xs₀ m₀
       stop_instructions s f = rw f at rest
 
-  pub turn_end : {left : ℕ} {last : Event} {r : Registers} {xs : List ℕ} {m : Memory} {best : Best} → Turn left last r xs m best → left ≡ 0 → ran (Made last) n r xs m ≡ run_from n img rs (Made event.Instruction) 0 r₀ xs₀ m₀
+  pub turn_end : {left : ℕ} {last : Event} {r : Registers} {xs : List ℕ} {m : Memory} {best : Best} → Turn left last r xs m best → left ≡ 0 → ran (Ok last) n r xs m ≡ run_from n img rs (Ok event.Instruction) 0 r₀ xs₀ m₀
   turn_end {left} {last} {r} {xs} {m} t e =
       let z : n ≡ n - 0 = omega arith in
-      ap (λ (k : ℕ). ran (Made last) k r xs m) z ∙ run_end img rs (Made last) (n - 0) r xs m ∙ (rw e at t.run)
+      ap (λ (k : ℕ). ran (Ok last) k r xs m) z ∙ run_end img rs (Ok last) (n - 0) r xs m ∙ (rw e at t.run)

@@ -16,12 +16,12 @@ use Rattle.decisions.proofs.Steps.{one_kept}
 use Rattle.machine.specs.Step.{StepOf, accepted_by, stepped_by, step_of}
 use Rattle.machine.specs.Run.{RunOf, onward, run_from, run_by, run_of, RefusedKeeps}
 use Rattle.machine.specs.Inner.{Ready}
-use Rattle.machine.specs.declared.answer.Outcome.{Outcome}
-use Rattle.machine.specs.declared.answer.Outcome.TheVariants.{Made, Stopped, Refused}
 use Rattle.machine.proofs.Turns.{ready_next, run_made, run_stopped}
 use Rattle.machine.proofs.Singles.{run_refused, run_accepted, refused_keeps_lem, not_refused}
 use Rattle.std.specs.Prelude.{Err, Ok, Result, ⊤}
 use Rattle.events.specs.declared.event.Stop.{Stop}
+use Rattle.machine.specs.declared.answer.Unmade.{Unmade}
+use Rattle.machine.specs.declared.answer.Unmade.TheVariants.{Refused, Stopped}
 
 -- registers are words, with PC even, and bytes are bytes
 pub record InBounds (r : Registers) (m : Memory) : Type 0 where
@@ -46,13 +46,13 @@ module _ {img : List ℕ} (image : Bytes img) (rs : List Range) where
       by_verdict (Err x) = h
 
   -- ---- a run
-  onward_bounds : (made : ℕ) (o : Outcome) (s : StepOf) (next : RunOf) → InBounds s.registers s.memory → InBounds next.registers next.memory
+  onward_bounds : (made : ℕ) (o : Result Event Unmade) (s : StepOf) (next : RunOf) → InBounds s.registers s.memory → InBounds next.registers next.memory
       → (let v = onward o made s next in InBounds v.registers v.memory)
-  onward_bounds made (Made e) s next a b = b
-  onward_bounds made (Stopped x) s next a b = a
-  onward_bounds made (Refused x) s next a b = a
+  onward_bounds made (Ok e) s next a b = b
+  onward_bounds made (Err (Stopped x)) s next a b = a
+  onward_bounds made (Err (Refused x)) s next a b = a
 
-  from_bounds : (n : ℕ) (last : Outcome) (made : ℕ) {r : Registers} {m : Memory} → InBounds r m → (xs : List ℕ) → (let v = run_from n img rs last made r xs m in InBounds v.registers v.memory)
+  from_bounds : (n : ℕ) (last : Result Event Unmade) (made : ℕ) {r : Registers} {m : Memory} → InBounds r m → (xs : List ℕ) → (let v = run_from n img rs last made r xs m in InBounds v.registers v.memory)
   unfolding run_from
   from_bounds zero last made h xs = h
   from_bounds (suc n) last made {r} {m} h xs =
@@ -65,11 +65,11 @@ module _ {img : List ℕ} (image : Bytes img) (rs : List Range) where
   run_bounds n {r} {m} h xs = by (step_verdict m img (pc r))
     where
       by : (v : Result ⊤ Refusal) → (let w = run_by n img r xs rs m v in InBounds w.registers w.memory)
-      by (Ok _) = from_bounds n (Made event.Instruction) 0 h xs
+      by (Ok _) = from_bounds n (Ok event.Instruction) 0 h xs
       by (Err x) = h
 
   -- ---- no refusal after an accepted start
-  from_accepted : (n : ℕ) (last : Event) (made : ℕ) {r : Registers} {m : Memory} → Ready img r m → (xs : List ℕ) (x : Refusal) → (run_from n img rs (Made last) made r xs m).outcome ≡ Refused x → ⊥
+  from_accepted : (n : ℕ) (last : Event) (made : ℕ) {r : Registers} {m : Memory} → Ready img r m → (xs : List ℕ) (x : Refusal) → (run_from n img rs (Ok last) made r xs m).outcome ≡ Err (Refused x) → ⊥
   unfolding run_from
   from_accepted zero last made y xs x p = not_refused (Ok last) refl x p
   from_accepted (suc n) last made {r} {m} y xs x p =
@@ -77,9 +77,9 @@ module _ {img : List ℕ} (image : Bytes img) (rs : List Range) where
       by v.ending refl (λ e. from_accepted n e (made + 1) (ready_next y xs rs v refl) (requests_of img r xs rs) x)
     where
       by : (d : Result Event Stop) → (one_of img r xs rs m).ending ≡ d
-          → ((e : Event) → (run_from n img rs (Made e) (made + 1) (one_of img r xs rs m).registers (requests_of img r xs rs) (one_of img r xs rs m).memory).outcome ≡ Refused x → ⊥) → ⊥
-      by (Ok e) g next = next e (ap (λ (w : RunOf). w.outcome) (run_made y xs rs (one_of img r xs rs m) refl n made (Made last) e g) ∙ p)
-      by (Err s) g next = not_refused (Err s) refl x (ap (λ (w : RunOf). w.outcome) (run_stopped y xs rs (one_of img r xs rs m) refl n made (Made last) s g) ∙ p)
+          → ((e : Event) → (run_from n img rs (Ok e) (made + 1) (one_of img r xs rs m).registers (requests_of img r xs rs) (one_of img r xs rs m).memory).outcome ≡ Err (Refused x) → ⊥) → ⊥
+      by (Ok e) g next = next e (ap (λ (w : RunOf). w.outcome) (run_made y xs rs (one_of img r xs rs m) refl n made (Ok last) e g) ∙ p)
+      by (Err s) g next = not_refused (Err s) refl x (ap (λ (w : RunOf). w.outcome) (run_stopped y xs rs (one_of img r xs rs m) refl n made (Ok last) s g) ∙ p)
 
   pub run_refuses : (n : ℕ) {r : Registers} {m : Memory} → InBounds r m → (xs : List ℕ) → RefusedKeeps r xs m (run_of n img r xs rs m)
   run_refuses n {r} {m} h xs = by (step_verdict m img (pc r)) refl

@@ -20,11 +20,11 @@ use Rattle.permits.specs.Permits.{permits_of}
 use Rattle.machine.specs.Step.{stepped, accepted_of, step_of}
 use Rattle.machine.specs.Run.{ran, run_from}
 use Rattle.machine.specs.Inner.{Ready}
-use Rattle.machine.specs.declared.answer.Outcome.{Outcome}
-use Rattle.machine.specs.declared.answer.Outcome.TheVariants.{Made, Stopped}
 use Rattle.std.specs.Prelude.{Err, Ok, Result, ⊤}
 use Rattle.image.specs.declared.table.ImageFault.{ImageFault}
 use Rattle.image.specs.declared.table.ImageFault.TheVariants.{Record, Table}
+use Rattle.machine.specs.declared.answer.Unmade.TheVariants.{Stopped}
+use Rattle.machine.specs.declared.answer.Unmade.{Unmade}
 
 -- ---- a step of an accepted machine
 pub accepted_step : (img : List ℕ) (r : Registers) (xs : List ℕ) (rs : List Range) (m : Memory) → step_verdict m img (pc r) ≡ (Ok tt) → step_of img r xs rs m ≡ accepted_of img r xs rs m
@@ -49,27 +49,27 @@ module _ {img : List ℕ} {r : Registers} {m : Memory} (y : Ready img r m) (xs :
         bytes = kept.bytes;
       }
 
-  step_made : (e : Event) → v.ending ≡ Ok e → step_of img r xs rs m ≡ stepped (Made e) v.registers (requests_of img r xs rs) v.memory (permits_of img r.a r.core xs rs)
+  step_made : (e : Event) → v.ending ≡ Ok e → step_of img r xs rs m ≡ stepped (Ok e) v.registers (requests_of img r xs rs) v.memory (permits_of img r.a r.core xs rs)
   step_made e h = accepted_step img r xs rs m y.accepted ∙ rw (← is, h)
 
-  step_stopped : (s : Stop) → v.ending ≡ Err s → step_of img r xs rs m ≡ stepped (Stopped s) v.registers xs v.memory (permits_of img r.a r.core xs rs)
+  step_stopped : (s : Stop) → v.ending ≡ Err s → step_of img r xs rs m ≡ stepped (Err (Stopped s)) v.registers xs v.memory (permits_of img r.a r.core xs rs)
   step_stopped s h = accepted_step img r xs rs m y.accepted ∙ rw (← is, h, (kept.leaves s h).0, (kept.leaves s h).1)
 
-  pub run_made : (left made : ℕ) (last : Outcome) (e : Event) → v.ending ≡ Ok e
-      → run_from left img rs (Made e) (made + 1) v.registers (requests_of img r xs rs) v.memory ≡ run_from (suc left) img rs last made r xs m
+  pub run_made : (left made : ℕ) (last : Result Event Unmade) (e : Event) → v.ending ≡ Ok e
+      → run_from left img rs (Ok e) (made + 1) v.registers (requests_of img r xs rs) v.memory ≡ run_from (suc left) img rs last made r xs m
   unfolding run_from
   run_made left made last e g = rw (step_made e g)
 
-  pub run_stopped : (left made : ℕ) (last : Outcome) (s : Stop) → v.ending ≡ Err s → ran (Stopped s) made v.registers xs v.memory ≡ run_from (suc left) img rs last made r xs m
+  pub run_stopped : (left made : ℕ) (last : Result Event Unmade) (s : Stop) → v.ending ≡ Err s → ran (Err (Stopped s)) made v.registers xs v.memory ≡ run_from (suc left) img rs last made r xs m
   unfolding run_from
   run_stopped left made last s g = rw (step_stopped s g)
 
-pub run_end : (img : List ℕ) (rs : List Range) (last : Outcome) (made : ℕ) (r : Registers) (xs : List ℕ) (m : Memory) → ran last made r xs m ≡ run_from 0 img rs last made r xs m
+pub run_end : (img : List ℕ) (rs : List Range) (last : Result Event Unmade) (made : ℕ) (r : Registers) (xs : List ℕ) (m : Memory) → ran last made r xs m ≡ run_from 0 img rs last made r xs m
 unfolding run_from
 run_end img rs last made r xs m = refl
 
 -- before a step the last outcome does not matter
-pub run_last : (left : ℕ) (img : List ℕ) (rs : List Range) (x y : Outcome) (made : ℕ) (r : Registers) (xs : List ℕ) (m : Memory) → 0 < left → run_from left img rs x made r xs m ≡ run_from left img rs y made r xs m
+pub run_last : (left : ℕ) (img : List ℕ) (rs : List Range) (x y : Result Event Unmade) (made : ℕ) (r : Registers) (xs : List ℕ) (m : Memory) → 0 < left → run_from left img rs x made r xs m ≡ run_from left img rs y made r xs m
 unfolding run_from
 run_last zero img rs x y made r xs m h = absurd (omega arith)
 run_last (suc left) img rs x y made r xs m h = refl
@@ -80,7 +80,7 @@ unfolding takes
 off icr level e = rw e
 
 -- an accepted image holds
-never : {x : Refusal} → Err x ≡ (Ok tt) → ⊥
+never : {x : Refusal} → ◌≡◌ {A = Result ⊤ Refusal} (Err x) (Ok tt) → ⊥
 never e = let z : ◌≡◌ {A = ℕ} 0 1 = cc in omega arith
 
 by_image : (c : Result ⊤ ImageFault) (v : Result ⊤ Refusal) → and_then (image_said c) v ≡ (Ok tt) → c ≡ (Ok tt)

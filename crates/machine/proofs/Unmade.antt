@@ -11,12 +11,12 @@ use Rattle.decisions.specs.Decision.{one_of}
 use Rattle.permits.specs.declared.Permits.{Permits}
 use Rattle.machine.specs.Step.{StepOf, accepted_by, stepped_by, step_of}
 use Rattle.machine.specs.Run.{RunOf, ran, onward, run_from, run_by, run_of}
-use Rattle.machine.specs.declared.answer.Outcome.{Outcome}
-use Rattle.machine.specs.declared.answer.Outcome.TheVariants.{Made, Stopped, Refused}
 use Rattle.std.specs.Prelude.{Err, Ok, Result, ⊤}
 use Rattle.events.specs.declared.event.Event.{Event}
 use Rattle.events.specs.declared.event.Stop.{Stop}
 use Rattle.inputs.specs.declared.verdict.Refusal.{Refusal}
+use Rattle.machine.specs.declared.answer.Unmade.{Unmade}
+use Rattle.machine.specs.declared.answer.Unmade.TheVariants.{Refused, Stopped}
 
 -- registers, requests and memory are these
 pub record Leaves (r : Registers) (xs : List ℕ) (m : Memory) (v : RunOf) : Type 0 where
@@ -25,12 +25,12 @@ pub record Leaves (r : Registers) (xs : List ℕ) (m : Memory) (v : RunOf) : Typ
   pub memory : v.memory ≡ m
 
 -- steps made are counted
-more : (o : Outcome) (made : ℕ) (s : StepOf) (next : RunOf) → made ≤ next.made → made ≤ (onward o made s next).made
-more (Made e) made s next h = h
-more (Stopped x) made s next h = omega arith
-more (Refused x) made s next h = omega arith
+more : (o : Result Event Unmade) (made : ℕ) (s : StepOf) (next : RunOf) → made ≤ next.made → made ≤ (onward o made s next).made
+more (Ok e) made s next h = h
+more (Err (Stopped x)) made s next h = omega arith
+more (Err (Refused x)) made s next h = omega arith
 
-counted : (n : ℕ) (img : List ℕ) (rs : List Range) (last : Outcome) (made : ℕ) (r : Registers) (xs : List ℕ) (m : Memory) → made ≤ (run_from n img rs last made r xs m).made
+counted : (n : ℕ) (img : List ℕ) (rs : List Range) (last : Result Event Unmade) (made : ℕ) (r : Registers) (xs : List ℕ) (m : Memory) → made ≤ (run_from n img rs last made r xs m).made
 unfolding run_from
 counted zero img rs last made r xs m = omega arith
 counted (suc n) img rs last made r xs m =
@@ -40,10 +40,10 @@ counted (suc n) img rs last made r xs m =
 
 -- ---- a step that is not made
 module _ (img : List ℕ) (r : Registers) (xs : List ℕ) (rs : List Range) (m : Memory) where
-  abbrev pub Unmoved : Outcome → StepOf → Type 0
-  Unmoved (Made e) s = Unit {0}
-  Unmoved (Stopped x) s = Leaves r xs m (ran (Stopped x) 0 s.registers s.requests s.memory)
-  Unmoved (Refused x) s = Leaves r xs m (ran (Refused x) 0 s.registers s.requests s.memory)
+  abbrev pub Unmoved : Result Event Unmade → StepOf → Type 0
+  Unmoved (Ok e) s = Unit {0}
+  Unmoved (Err (Stopped x)) s = Leaves r xs m (ran (Err (Stopped x)) 0 s.registers s.requests s.memory)
+  Unmoved (Err (Refused x)) s = Leaves r xs m (ran (Err (Refused x)) 0 s.registers s.requests s.memory)
 
   by_ending : (ys : List ℕ) (p : Permits) (e : Result Event Stop) (q : Registers) (w : Memory) → (let s = accepted_by r xs m ys p e q w in Unmoved s.outcome s)
   by_ending ys p (Ok e) q w = tt
@@ -57,12 +57,12 @@ module _ (img : List ℕ) (r : Registers) (xs : List ℕ) (rs : List Range) (m :
   unfolding step_of
   unmoved = by_verdict (step_verdict m img (pc r))
 
-  ended : (o : Outcome) (s : StepOf) (next : RunOf) → Unmoved o s → 1 ≤ next.made → (onward o 0 s next).made ≡ 0 → Leaves r xs m (onward o 0 s next)
-  ended (Made e) s next u h z = absurd (omega arith)
-  ended (Stopped x) s next u h z = u
-  ended (Refused x) s next u h z = u
+  ended : (o : Result Event Unmade) (s : StepOf) (next : RunOf) → Unmoved o s → 1 ≤ next.made → (onward o 0 s next).made ≡ 0 → Leaves r xs m (onward o 0 s next)
+  ended (Ok e) s next u h z = absurd (omega arith)
+  ended (Err (Stopped x)) s next u h z = u
+  ended (Err (Refused x)) s next u h z = u
 
-  from : (n : ℕ) → (run_from n img rs (Made event.Instruction) 0 r xs m).made ≡ 0 → Leaves r xs m (run_from n img rs (Made event.Instruction) 0 r xs m)
+  from : (n : ℕ) → (run_from n img rs (Ok event.Instruction) 0 r xs m).made ≡ 0 → Leaves r xs m (run_from n img rs (Ok event.Instruction) 0 r xs m)
   unfolding run_from
   from zero z = record { registers = refl; requests = refl; memory = refl }
   from (suc n) z = let s = step_of img r xs rs m in ended s.outcome s _ unmoved (counted n img rs s.outcome 1 s.registers s.requests s.memory) z

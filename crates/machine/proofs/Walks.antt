@@ -28,12 +28,11 @@ use Rattle.machine.specs.Run.{run_from}
 use Rattle.spans.specs.Spans.{begin, EndsAt}
 use Rattle.spans.proofs.Holds.{Lies, SpanHolds, IndexIn, PlaceIn}
 use Rattle.machine.specs.Inner.{Ready, paced, paced_after, Paces}
-use Rattle.machine.specs.declared.answer.Outcome.{Outcome}
-use Rattle.machine.specs.declared.answer.Outcome.TheVariants as outcome
 use Rattle.spans.specs.declared.Span.{Span}
 use Rattle.machine.proofs.Turns.{ready_next, run_made, run_stopped, run_last}
 use Rattle.spans.proofs.Spans.{in_span, span_steady, index_by, counted_long, next_begins, long_four}
 use Rattle.std.specs.Prelude.{Err, Ok, Result}
+use Rattle.machine.specs.declared.answer.Unmade.{Unmade}
 
 module _ (n : ℕ) (img : List ℕ) (rs : List Range) (r₀ : Registers) (m₀ : Memory) where
   -- no interrupt is taken before the first step
@@ -46,7 +45,7 @@ module _ (n : ℕ) (img : List ℕ) (rs : List Range) (r₀ : Registers) (m₀ :
     pub some : 0 < left
     pub most : left ≤ n
     pub ready : (xs : List ℕ) → Quiet xs → Ready img r m
-    pub run : (xs : List ℕ) → Quiet xs → (x last : Outcome) (k : ℕ) → run_from left img rs x (k + (n - left)) r xs m ≡ run_from n img rs last k r₀ xs m₀
+    pub run : (xs : List ℕ) → Quiet xs → (x last : Result Event Unmade) (k : ℕ) → run_from left img rs x (k + (n - left)) r xs m ≡ run_from n img rs last k r₀ xs m₀
 
   pub stands_first : 0 < n → Ready img r₀ m₀ → Stands n r₀ m₀
   stands_first h y =
@@ -79,13 +78,13 @@ module _ (n : ℕ) (img : List ℕ) (rs : List Range) (r₀ : Registers) (m₀ :
           some = λ f z. absurd (let y : ◌≡◌ {A = ℕ} 0 1 = cc in omega arith);
           ready = ready;
           run = λ xs q last k.
-              run_stopped (t.ready xs q) xs rs v (one xs q) (left - 1) (k + (n - left)) (outcome.Made last) s e
-              ∙ subst (λ (l : ℕ). run_from l img rs (outcome.Made last) (k + (n - left)) r xs m ≡ run_from n img rs (outcome.Made last) k r₀ xs m₀) before (t.run xs q (outcome.Made last) (outcome.Made last) k);
+              run_stopped (t.ready xs q) xs rs v (one xs q) (left - 1) (k + (n - left)) (Ok last) s e
+              ∙ subst (λ (l : ℕ). run_from l img rs (Ok last) (k + (n - left)) r xs m ≡ run_from n img rs (Ok last) k r₀ xs m₀) before (t.run xs q (Ok last) (Ok last) k);
         }
 
     -- a step made, and the run from there
-    onward : (f : Event) → v.ending ≡ Ok f → (xs : List ℕ) → Quiet xs → (last : Outcome) (k : ℕ)
-        → run_from (left - 1) img rs (outcome.Made f) (k + (n - (left - 1))) v.registers xs v.memory ≡ run_from n img rs last k r₀ xs m₀
+    onward : (f : Event) → v.ending ≡ Ok f → (xs : List ℕ) → Quiet xs → (last : Result Event Unmade) (k : ℕ)
+        → run_from (left - 1) img rs (Ok f) (k + (n - (left - 1))) v.registers xs v.memory ≡ run_from n img rs last k r₀ xs m₀
     onward f e xs q last k =
         let h = t.some in
         let l = t.most in
@@ -101,7 +100,7 @@ module _ (n : ℕ) (img : List ℕ) (rs : List Range) (r₀ : Registers) (m₀ :
           most = omega arith;
           some = λ g z. omega arith;
           ready = ready;
-          run = λ xs q last k. onward f e xs q (outcome.Made last) k;
+          run = λ xs q last k. onward f e xs q (Ok last) k;
         }
 
     -- it stopped, or some steps end with it
@@ -127,7 +126,7 @@ module _ (n : ℕ) (img : List ℕ) (rs : List Range) (r₀ : Registers) (m₀ :
           some = h;
           most = omega arith;
           ready = ready;
-          run = λ xs q x last k. run_last (left - 1) img rs x (outcome.Made event.Instruction) (k + (n - (left - 1))) v.registers xs v.memory h ∙ onward event.Instruction e xs q last k;
+          run = λ xs q x last k. run_last (left - 1) img rs x (Ok event.Instruction) (k + (n - (left - 1))) v.registers xs v.memory h ∙ onward event.Instruction e xs q last k;
         }
 
   -- ---- in a span

@@ -11,9 +11,9 @@ use Rattle.interrupts.specs.declared.Best.{Best}
 use Rattle.inputs.specs.Checks.{step_verdict}
 use Rattle.decisions.specs.Valid.{Valid, Bytes}
 use Rattle.machine.specs.Run.{RunOf, ran, run_from}
-use Rattle.machine.specs.declared.answer.Outcome.TheVariants as outcome
 use Rattle.machine.specs.declared.instructions.Paced.{Paced}
 use Rattle.events.specs.declared.event.Stop.{Stop}
+use Rattle.machine.specs.declared.answer.Unmade.TheVariants.{Stopped}
 
 -- the source that n steps from that ICR on begin with: the best one; none, which is 16 and 0, for a single step with IE 0
 unfoldable pub foremost_of : ℕ → ℕ → List ℕ → Best
@@ -35,8 +35,8 @@ paced_after (Err s) n = paced (Err s) n
 
 -- what is left of a run after some steps of which the last ended so
 abbrev pub left_by : Result Event Stop → ℕ → List ℕ → List Range → ℕ → Registers → List ℕ → Memory → RunOf
-left_by (Ok e) left img rs made r xs m = run_from left img rs (outcome.Made e) made r xs m
-left_by (Err s) left img rs made r xs m = ran (outcome.Stopped s) made r xs m
+left_by (Ok e) left img rs made r xs m = run_from left img rs (Ok e) made r xs m
+left_by (Err s) left img rs made r xs m = ran (Err (Stopped s)) made r xs m
 
 -- some steps of n from (r, m) on lead to (q, w), with requests of which none is taken before the first: at least one, unless it stops
 pub record Paces (n : ℕ) (img : List ℕ) (rs : List Range) (r : Registers) (m : Memory) (p : Paced) (q : Registers) (w : Memory) : Type 0 where
@@ -44,4 +44,4 @@ pub record Paces (n : ℕ) (img : List ℕ) (rs : List Range) (r : Registers) (m
   pub some : (e : Event) → p.ending ≡ Ok e → p.left < n
   pub ready : (xs : List ℕ) → takes (icr r) (best_of xs).level ≡ false → Ready img q w
   pub run : (xs : List ℕ) → takes (icr r) (best_of xs).level ≡ false → (last : Event) (made : ℕ)
-      → left_by p.ending p.left img rs (made + (n - p.left)) q xs w ≡ run_from n img rs (outcome.Made last) made r xs m
+      → left_by p.ending p.left img rs (made + (n - p.left)) q xs w ≡ run_from n img rs (Ok last) made r xs m

@@ -8,37 +8,37 @@ use Rattle.inputs.specs.Checks.{step_verdict}
 use Rattle.decisions.specs.Decision.{one_of, requests_of}
 use Rattle.permits.specs.Permits.{no_permits, permits_of}
 use Rattle.permits.specs.declared.Permits.{Permits}
-use Rattle.machine.specs.declared.answer.Outcome.{Outcome}
-use Rattle.machine.specs.declared.answer.Outcome.TheVariants.{Made, Stopped, Refused}
 use Rattle.events.specs.declared.event.Event.{Event}
 use Rattle.events.specs.declared.event.Stop.{Stop}
 use Rattle.inputs.specs.declared.verdict.Refusal.{Refusal}
+use Rattle.machine.specs.declared.answer.Unmade.{Unmade}
+use Rattle.machine.specs.declared.answer.Unmade.TheVariants.{Refused, Stopped}
 
-abbrev pub outcome_of : Result Event Stop → Outcome
-outcome_of (Ok e) = Made e
-outcome_of (Err s) = Stopped s
+abbrev pub outcome_of : Result Event Stop → Result Event Unmade
+outcome_of (Ok e) = Ok e
+outcome_of (Err s) = Err (Stopped s)
 
 -- what an outcome says of the rules 1, 13 and 2 to 4
-abbrev pub verdict_in : Outcome → Result ⊤ Refusal
-verdict_in (Made e) = Ok tt
-verdict_in (Stopped s) = Ok tt
-verdict_in (Refused x) = Err x
+abbrev pub verdict_in : Result Event Unmade → Result ⊤ Refusal
+verdict_in (Ok e) = Ok tt
+verdict_in (Err (Stopped s)) = Ok tt
+verdict_in (Err (Refused x)) = Err x
 
 -- the outcome; registers, requests and memory after the step; and the ranges that permitted its fetch and its data access
 pub record StepOf : Type 0 where
-  pub outcome : Outcome
+  pub outcome : Result Event Unmade
   pub registers : Registers
   pub requests : List ℕ
   pub memory : Memory
   pub permits : Permits
 
-abbrev pub stepped : Outcome → Registers → List ℕ → Memory → Permits → StepOf
+abbrev pub stepped : Result Event Unmade → Registers → List ℕ → Memory → Permits → StepOf
 stepped o r xs m p = record { outcome = o; registers = r; requests = xs; memory = m; permits = p }
 
 -- a stop hands no new state on, but names the ranges; ys are the requests after a step that is made
 abbrev pub accepted_by : Registers → List ℕ → Memory → List ℕ → Permits → Result Event Stop → Registers → Memory → StepOf
-accepted_by r xs m ys p (Err s) q n = stepped (Stopped s) r xs m p
-accepted_by r xs m ys p (Ok e) q n = stepped (Made e) q ys n p
+accepted_by r xs m ys p (Err s) q n = stepped (Err (Stopped s)) r xs m p
+accepted_by r xs m ys p (Ok e) q n = stepped (Ok e) q ys n p
 
 abbrev pub accepted_of : List ℕ → Registers → List ℕ → List Range → Memory → StepOf
 accepted_of img r xs rs m =
@@ -46,7 +46,7 @@ accepted_of img r xs rs m =
     accepted_by r xs m (requests_of img r xs rs) (permits_of img r.a r.core xs rs) v.ending v.registers v.memory
 
 abbrev pub stepped_by : List ℕ → Registers → List ℕ → List Range → Memory → Result ⊤ Refusal → StepOf
-stepped_by img r xs rs m (Err x) = stepped (Refused x) r xs m no_permits
+stepped_by img r xs rs m (Err x) = stepped (Err (Refused x)) r xs m no_permits
 stepped_by img r xs rs m (Ok _) = accepted_of img r xs rs m
 
 -- img is the image, xs the request words of the 16 sources, rs the 32 ranges

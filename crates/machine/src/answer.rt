@@ -3,15 +3,14 @@
 ghost use Rattle.std.specs.Prelude.{◌≡◌};
 ghost use Rattle.machine.specs.Step.{outcome_of};
 
-use events::event::{Ending, Event, Stop};
+use events::event::{Event, Stop};
 use inputs::verdict::Refusal;
 use permits::Permits;
 use registers::Registers;
 
-// A step's event, or why it was not made. Of a run: its last step's.
+// Why a step was not made: it stopped, or what it was given is refused. A step's outcome is its event or this; a run's is its last step's.
 #[derive(Clone, Copy)]
-pub enum Outcome {
-    Made(Event),
+pub enum Unmade {
     Stopped(Stop),
     Refused(Refusal),
 }
@@ -20,7 +19,7 @@ pub enum Outcome {
 pub struct Stepped {
     pub registers: Registers,
     pub requests: [u32; 16],
-    pub outcome: Outcome,
+    pub outcome: Result<Event, Unmade>,
     pub permits: Permits,
 }
 
@@ -28,16 +27,13 @@ pub struct Stepped {
 pub struct Ran {
     pub registers: Registers,
     pub requests: [u32; 16],
-    pub outcome: Outcome,
+    pub outcome: Result<Event, Unmade>,
     pub made: u32,
 }
 
 // The outcome of a step that was accepted.
-pub fn outcome_of(e: Result<Event, Stop>) -> Outcome
+pub fn outcome_of(e: Result<Event, Stop>) -> Result<Event, Unmade>
     ensures { result ≡ outcome_of e }
 {
-    match e {
-        Ok(v) => Outcome::Made(v),
-        Err(s) => Outcome::Stopped(s),
-    }
+    e.map_err(Unmade::Stopped)
 }

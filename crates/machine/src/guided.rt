@@ -1,18 +1,17 @@
 // A run of an accepted machine, with marks of its records where they are worth it.
 
-ghost use Rattle.std.specs.Prelude.{◌≡◌, true};
+ghost use Rattle.std.specs.Prelude.{◌≡◌, true, Ok};
 ghost use Rattle.memory.specs.Memory.{lent};
-ghost use Rattle.registers.specs.Registers.{registers};
 ghost use Rattle.image.specs.Marks.{long_only};
 ghost use Rattle.machine.specs.Step.{outcome_of};
 ghost use Rattle.machine.specs.Run.{ran, run_from};
 ghost use Rattle.machine.specs.Inner.{Ready};
-ghost use Rattle.machine.specs.declared.answer.Outcome.TheVariants as outcome;
 ghost use Rattle.events.specs.declared.event.Event.TheVariants as event;
 
 use crate::run_steps::{Went, run_steps};
 use image::marks::{Guide, mark_image};
 use memory::address::Address;
+use protection::range::Range;
 use registers::Registers;
 
 // So many steps or more of an image with short forms are worth its marks.
@@ -31,7 +30,7 @@ fn run_marked(
     n: u32,
 ) -> Went
     requires { Ready image.now registers.old (lent base window.old base2 window2.old) }
-    ensures { ran (outcome_of result.ending) result.made registers.new requests.new (lent base window.new base2 window2.new) ≡ run_from n image.now ranges.now (outcome.Made event.Instruction) 0 registers.old requests.old (lent base window.old base2 window2.old) }
+    ensures { ran (outcome_of result.ending) result.made registers.new requests.new (lent base window.new base2 window2.new) ≡ run_from n image.now ranges.now (Ok event.Instruction) 0 registers.old requests.old (lent base window.old base2 window2.old) }
 {
     let mut marks = [0; 4096];
     let shift = mark_image(image, &mut marks);
@@ -41,10 +40,7 @@ fn run_marked(
         base2,
         window2,
         image,
-        Guide {
-            long: false,
-            shift: shift,
-        },
+        Guide { long: false, shift },
         &marks,
         registers,
         requests,
@@ -68,7 +64,7 @@ pub fn run_guided(
 ) -> Went
     requires ready { Ready image.now registers.old (lent base window.old base2 window2.old) }
     requires all_long { long ≡ true → long_only image.now ≡ true }
-    ensures { ran (outcome_of result.ending) result.made registers.new requests.new (lent base window.new base2 window2.new) ≡ run_from n image.now ranges.now (outcome.Made event.Instruction) 0 registers.old requests.old (lent base window.old base2 window2.old) }
+    ensures { ran (outcome_of result.ending) result.made registers.new requests.new (lent base window.new base2 window2.new) ≡ run_from n image.now ranges.now (Ok event.Instruction) 0 registers.old requests.old (lent base window.old base2 window2.old) }
 {
     if !long {
         if MARKED <= n {
@@ -84,10 +80,7 @@ pub fn run_guided(
         base2,
         window2,
         image,
-        Guide {
-            long: long,
-            shift: 0,
-        },
+        Guide { long, shift: 0 },
         &none,
         registers,
         requests,

@@ -1,21 +1,21 @@
 // Instructions of an accepted machine, between interrupts, over the register arrays by reference.
 
-ghost use Rattle.std.specs.Prelude.{◌≡◌, ◌<◌};
+ghost use Rattle.std.specs.Prelude.{◌≡◌, ◌<◌, Ok};
 ghost use Rattle.memory.specs.Memory.{lent};
-ghost use Rattle.registers.specs.Registers.{registers};
 ghost use Rattle.machine.specs.Inner.{Ready, paced_after, Paces};
 ghost use Rattle.image.specs.Marks.{Guides};
 ghost use Rattle.spans.specs.Spans.{LiesAhead};
 
 use entries::entry::trap;
-use events::event::Ending;
+use events::event::{Event, Stop};
 use execute::{ending_of, execute_instruction, steady};
 use image::fetch::{index_from, next_after, read_record};
 use image::marks::Guide;
 use memory::address::Address;
+use protection::range::Range;
 use registers::{PC, Registers};
 use spans::index::place_at;
-use spans::{Ahead, Span, look_ahead};
+use spans::{Span, look_ahead};
 
 // How some steps ended, and how many are left to make.
 #[derive(Clone, Copy)]
@@ -40,7 +40,7 @@ fn steady_steps(
 ) -> Paced
     requires ready { Ready image.now registers.old (lent base window.old base2 window2.old) }
     requires guides { Guides image.now guide marks.now }
-    requires lies_ahead { LiesAhead image.now guide.long registers.old.core ranges.now (Ahead.Records s) }
+    requires lies_ahead { LiesAhead image.now guide.long registers.old.core ranges.now (Ok s) }
     requires n_nonzero { 0 < n }
     ensures { Paces n image.now ranges.now registers.old (lent base window.old base2 window2.old) result registers.new (lent base window.new base2 window2.new) }
 {
@@ -54,23 +54,14 @@ fn steady_steps(
         let done = execute_instruction(base, window, base2, window2, registers, ranges, i);
         let ending = ending_of(done);
         let Ok(_) = ending else {
-            return Paced {
-                ending: ending,
-                left: left,
-            };
+            return Paced { ending, left };
         };
         left -= 1;
         if left == 0 {
-            return Paced {
-                ending: ending,
-                left: left,
-            };
+            return Paced { ending, left };
         }
         if !steady(done) {
-            return Paced {
-                ending: ending,
-                left: left,
-            };
+            return Paced { ending, left };
         }
         let pc = registers.core[PC];
         k = index_from(s.from, pc);
@@ -80,10 +71,7 @@ fn steady_steps(
         }
         at = place_at(image, guide, marks, s, at, after, pc);
         if s.end <= at {
-            return Paced {
-                ending: ending,
-                left: left,
-            };
+            return Paced { ending, left };
         }
         k = 0;
         next = next_after(image, at, pc);
@@ -96,16 +84,8 @@ fn after_one(ending: Result<Event, Stop>, n: u32) -> Paced
     requires { 0 < n }
     ensures { result ≡ paced_after ending n }
 {
-    match ending {
-        Ok(e) => Paced {
-            ending: Ok(e),
-            left: n - 1,
-        },
-        Err(s) => Paced {
-            ending: Err(s),
-            left: n,
-        },
-    }
+    let left = if ending.is_ok() { n - 1 } else { n };
+    Paced { ending, left }
 }
 
 // Up to n instructions, where no interrupt is taken before the first: at least one, unless it stops.

@@ -1,21 +1,20 @@
 // Steps of an accepted machine, over the register arrays by reference.
 
-ghost use Rattle.std.specs.Prelude.{◌≡◌};
+ghost use Rattle.std.specs.Prelude.{◌≡◌, Ok};
 ghost use Rattle.memory.specs.Memory.{lent};
-ghost use Rattle.registers.specs.Registers.{registers};
 ghost use Rattle.machine.specs.Step.{outcome_of};
 ghost use Rattle.machine.specs.Run.{ran, run_from};
 ghost use Rattle.machine.specs.Inner.{foremost_of, Ready};
 ghost use Rattle.image.specs.Marks.{Guides};
-ghost use Rattle.machine.specs.declared.answer.Outcome.TheVariants as outcome;
 ghost use Rattle.events.specs.declared.event.Event.TheVariants as event;
 
 use crate::instructions::instructions;
 use entries::entry::interrupt;
-use events::event::{Ending, Event, passed_on};
+use events::event::{Event, Stop, passed_on};
 use image::marks::Guide;
 use interrupts::{Best, best_source, clear, taken};
 use memory::address::Address;
+use protection::range::Range;
 use registers::{ICR, Registers};
 
 // The best source at the start of n steps. A single step with IE 0 takes none, and the sources are not looked through for it.
@@ -56,7 +55,7 @@ fn run_by_reference(
 ) -> Went
     requires ready { Ready image.now registers.old (lent base window.old base2 window2.old) }
     requires guides { Guides image.now guide marks.now }
-    ensures { ran (outcome_of result.ending) result.made registers.new requests.new (lent base window.new base2 window2.new) ≡ run_from n image.now ranges.now (outcome.Made event.Instruction) 0 registers.old requests.old (lent base window.old base2 window2.old) }
+    ensures { ran (outcome_of result.ending) result.made registers.new requests.new (lent base window.new base2 window2.new) ≡ run_from n image.now ranges.now (Ok event.Instruction) 0 registers.old requests.old (lent base window.old base2 window2.old) }
 {
     let mut best = first_source(requests, registers.core[ICR], n);
     let mut last = Event::Instruction;
@@ -74,7 +73,7 @@ fn run_by_reference(
             ));
             let Ok(e) = ending else {
                 return Went {
-                    ending: ending,
+                    ending,
                     made: n - left,
                 };
             };
@@ -90,7 +89,7 @@ fn run_by_reference(
         let ending = p.ending;
         let Ok(e) = ending else {
             return Went {
-                ending: ending,
+                ending,
                 made: n - p.left,
             };
         };
@@ -119,28 +118,12 @@ pub fn run_steps(
 ) -> Went
     requires ready { Ready image.now registers.old (lent base window.old base2 window2.old) }
     requires guides { Guides image.now guide marks.now }
-    ensures { ran (outcome_of result.ending) result.made registers.new requests.new (lent base window.new base2 window2.new) ≡ run_from n image.now ranges.now (outcome.Made event.Instruction) 0 registers.old requests.old (lent base window.old base2 window2.old) }
+    ensures { ran (outcome_of result.ending) result.made registers.new requests.new (lent base window.new base2 window2.new) ≡ run_from n image.now ranges.now (Ok event.Instruction) 0 registers.old requests.old (lent base window.old base2 window2.old) }
 {
-    let mut own_d = *d;
-    let mut own_a = *a;
-    let mut own_core = *core;
+    let mut own = *registers;
     let w = run_by_reference(
-        base,
-        window,
-        base2,
-        window2,
-        image,
-        guide,
-        marks,
-        &mut own_d,
-        &mut own_a,
-        &mut own_core,
-        requests,
-        ranges,
-        n,
+        base, window, base2, window2, image, guide, marks, &mut own, requests, ranges, n,
     );
-    *d = own_d;
-    *a = own_a;
-    *core = own_core;
+    *registers = own;
     w
 }

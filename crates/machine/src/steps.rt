@@ -10,15 +10,14 @@ ghost use Rattle.machine.specs.Step.{verdict_in, stepped, step_of};
 ghost use Rattle.machine.specs.Run.{ran, run_of, RefusedKeeps};
 ghost use Rattle.machine.specs.Inner.{Ready};
 
-use crate::answer::{Outcome, Ran, Stepped, outcome_of};
+use crate::answer::{Ran, Stepped, Unmade, outcome_of};
 use crate::guided::run_guided;
 use crate::run_steps::run_steps;
 use image::marks::Guide;
 use inputs::checks::scan_step;
-use inputs::verdict::Verdict;
 use memory::address::Address;
 use permits::{Permits, permits_of};
-use protection::range::{Permit, Range, flat};
+use protection::range::Range;
 use registers::{PC, Registers};
 
 // A step of a machine that these rules accept, with what they told of the image.
@@ -29,48 +28,34 @@ fn step_accepted(
     window2: &mut [u8],
     image: &[u8],
     long: bool,
-    registers: Registers,
-    requests: [u32; 16],
+    mut registers: Registers,
+    mut requests: [u32; 16],
     ranges: [Range; 32],
 ) -> Stepped
     requires ready { Ready image.now registers (lent base window.old base2 window2.old) }
     requires all_long { long ≡ true → long_only image.now ≡ true }
     ensures { stepped result.outcome result.registers result.requests (lent base window.new base2 window2.new) result.permits ≡ step_of image.now registers requests ranges (lent base window.old base2 window2.old) }
 {
-    let mut d = registers.d;
-    let mut a = registers.a;
-    let mut core = registers.core;
-    let mut xs = requests;
     let none = [0; 1];
-    let p = permits_of(image, long, &a, &core, &xs, &ranges);
+    let permits = permits_of(image, long, &registers, &requests, &ranges);
     let w = run_steps(
         base,
         window,
         base2,
         window2,
         image,
-        Guide {
-            long: long,
-            shift: 0,
-        },
+        Guide { long, shift: 0 },
         &none,
-        &mut d,
-        &mut a,
-        &mut core,
-        &mut xs,
+        &mut registers,
+        &mut requests,
         &ranges,
         1,
     );
-    let ending = w.ending;
     Stepped {
-        registers: Registers {
-            d: d,
-            a: a,
-            core: core,
-        },
-        requests: xs,
-        outcome: outcome_of(ending),
-        permits: p,
+        registers,
+        requests,
+        outcome: outcome_of(w.ending),
+        permits,
     }
 }
 
@@ -88,23 +73,19 @@ pub fn step(
     ensures stepped { stepped result.outcome result.registers result.requests (lent base window.new base2 window2.new) result.permits ≡ step_of image.now registers requests ranges (lent base window.old base2 window2.old) }
     ensures exactly { Exactly (StepSays (lent base window.old base2 window2.old) image.now (pc registers)) (verdict_in result.outcome) }
 {
-    let tried = scan_step(base, window, base2, window2, image, registers.core[PC]);
-    let verdict = tried.verdict;
-    match verdict {
+    match scan_step(base, window, base2, window2, image, registers.core[PC]) {
         Err(x) => Stepped {
-            registers: registers,
-            requests: requests,
-            outcome: Outcome::Refused(x),
+            registers,
+            requests,
+            outcome: Err(Unmade::Refused(x)),
             permits: Permits {
                 fetch: None,
-                data: None,
+                access: None,
             },
         },
-        Ok(()) => {
-            step_accepted(
-                base, window, base2, window2, image, tried.long, registers, requests, ranges,
-            )
-        }
+        Ok(long) => step_accepted(
+            base, window, base2, window2, image, long, registers, requests, ranges,
+        ),
     }
 }
 
@@ -115,8 +96,8 @@ pub fn run(
     base2: Address,
     window2: &mut [u8],
     image: &[u8],
-    registers: Registers,
-    requests: [u32; 16],
+    mut registers: Registers,
+    mut requests: [u32; 16],
     ranges: [Range; 32],
     n: u32,
 ) -> Ran
@@ -124,33 +105,30 @@ pub fn run(
     ensures refused_keeps { RefusedKeeps registers requests (lent base window.old base2 window2.old) (ran result.outcome result.made result.registers result.requests (lent base window.new base2 window2.new)) }
     ensures exactly { Exactly (StepSays (lent base window.old base2 window2.old) image.now (pc registers)) (verdict_in result.outcome) }
 {
-    let tried = scan_step(base, window, base2, window2, image, registers.core[PC]);
-    let verdict = tried.verdict;
-    match verdict {
+    match scan_step(base, window, base2, window2, image, registers.core[PC]) {
         Err(x) => Ran {
-            registers: registers,
-            requests: requests,
-            outcome: Outcome::Refused(x),
+            registers,
+            requests,
+            outcome: Err(Unmade::Refused(x)),
             made: 0,
         },
-        Ok(()) => {
-            let mut d = registers.d;
-            let mut a = registers.a;
-            let mut core = registers.core;
-            let mut xs = requests;
+        Ok(long) => {
             let w = run_guided(
-                base, window, base2, window2, image, tried.long, &mut d, &mut a, &mut core,
-                &mut xs, &ranges, n,
+                base,
+                window,
+                base2,
+                window2,
+                image,
+                long,
+                &mut registers,
+                &mut requests,
+                &ranges,
+                n,
             );
-            let ending = w.ending;
             Ran {
-                registers: Registers {
-                    d: d,
-                    a: a,
-                    core: core,
-                },
-                requests: xs,
-                outcome: outcome_of(ending),
+                registers,
+                requests,
+                outcome: outcome_of(w.ending),
                 made: w.made,
             }
         }

@@ -10,7 +10,7 @@ ghost use Rattle.registers.specs.Registers.{second_of, plus_of, minus_of, new_pc
 pub const CORE: usize = 10;
 
 // D0 to D15, A0 to A15, and the core registers under the indices below.
-#[derive(Drop)]
+#[derive(Clone, Copy)]
 pub struct Registers {
     pub d: [u32; 16],
     pub a: [u32; 16],

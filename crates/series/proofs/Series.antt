@@ -21,8 +21,6 @@ use Rattle.permits.specs.Permits.{no_permits}
 use Rattle.permits.specs.declared.Permits.{Permits}
 use Rattle.machine.specs.Step.{StepOf, stepped, accepted_by}
 use Rattle.machine.specs.Run.{RunOf, onward, run_from, run_of}
-use Rattle.machine.specs.declared.answer.Outcome.{Outcome}
-use Rattle.machine.specs.declared.answer.Outcome.TheVariants as outcome
 use Rattle.machine.proofs.Turns.{accepted_step}
 use Rattle.machine.proofs.Singles.{step_refused, run_refused, run_accepted}
 use Rattle.series.specs.Abstract.{AbstractLists, list_move_of, moved}
@@ -35,6 +33,8 @@ use Rattle.std.specs.Prelude.{Err, Ok, Result, ⊤}
 use Rattle.inputs.specs.declared.verdict.Refusal.{Refusal}
 use Rattle.events.specs.declared.event.Event.{Event}
 use Rattle.events.specs.declared.event.Stop.{Stop}
+use Rattle.machine.specs.declared.answer.Unmade.TheVariants.{Refused, Stopped}
+use Rattle.machine.specs.declared.answer.Unmade.{Unmade}
 
 -- ---- a step
 module _ (L : List Link) (a : Args) (b : AbstractLists) where
@@ -77,7 +77,7 @@ module _ (L : List Link) (a : Args) (b : AbstractLists) where
     where
       by : (v : Result ⊤ Refusal) → verdict_at a ≡ v → QuietBy v L a → Turned v (moved_at a b)
       by (Err x) e k =
-          let s : step_at a ≡ stepped (outcome.Refused x) r a.requests m no_permits = step_refused a.image.bytes r a.requests a.ranges m x e in
+          let s : step_at a ≡ stepped (Err (Refused x)) r a.requests m no_permits = step_refused a.image.bytes r a.requests a.ranges m x e in
           record { inv = rw (moved_is (Err x) e, s) i; restored = tt; stops = rw (moved_is (Err x) e, s) refl }
       by (Ok tt) e k =
           let w = i.valid in
@@ -95,17 +95,17 @@ module _ (L : List Link) (a : Args) (b : AbstractLists) where
 
 -- ---- a run
 -- a run that is refused is its first step, refused
-pub run_state : (n : ℕ) (img : List ℕ) (r : Registers) (xs : List ℕ) (rs : List Range) (m : Memory) → after_run (run_of n img r xs rs m) ≡ after_run (run_from n img rs (outcome.Made event.Instruction) 0 r xs m)
+pub run_state : (n : ℕ) (img : List ℕ) (r : Registers) (xs : List ℕ) (rs : List Range) (m : Memory) → after_run (run_of n img r xs rs m) ≡ after_run (run_from n img rs (Ok event.Instruction) 0 r xs m)
 unfolding run_from
 run_state n img r xs rs m = by (step_verdict m img (pc r)) refl n
   where
-    by : (v : Result ⊤ Refusal) → step_verdict m img (pc r) ≡ v → (n : ℕ) → after_run (run_of n img r xs rs m) ≡ after_run (run_from n img rs (outcome.Made event.Instruction) 0 r xs m)
+    by : (v : Result ⊤ Refusal) → step_verdict m img (pc r) ≡ v → (n : ℕ) → after_run (run_of n img r xs rs m) ≡ after_run (run_from n img rs (Ok event.Instruction) 0 r xs m)
     by (Ok _) e n = rw (run_accepted img r xs rs m n e)
     by (Err x) e zero = rw (run_refused img r xs rs m x e 0)
     by (Err x) e (suc n) = rw (run_refused img r xs rs m x e (suc n), step_refused img r xs rs m x e)
 
 module _ (L : List Link) where
-  pub run_turns : (n : ℕ) (img : Image) (rs : List Range) (last : Outcome) (k : ℕ) (r : Registers) (xs : List ℕ) (m : Memory) (b : AbstractLists) → Inv L (state r m) b → AllQuiet L (run_args n img rs r xs m)
+  pub run_turns : (n : ℕ) (img : Image) (rs : List Range) (last : Result Event Unmade) (k : ℕ) (r : Registers) (xs : List ℕ) (m : Memory) (b : AbstractLists) → Inv L (state r m) b → AllQuiet L (run_args n img rs r xs m)
       → Inv L (after_run (run_from n img.bytes rs last k r xs m)) (moved_all (run_args n img rs r xs m) b) × EachStep (run_args n img rs r xs m) b
   unfolding run_from run_args
   run_turns zero img rs last k r xs m b i q = (i, tt)
@@ -119,17 +119,17 @@ module _ (L : List Link) where
       (u.0, (t.restored, t.stops, u.1))
     where
       by : (s : StepOf) (now : AbstractLists) (rest : List Args) (next : RunOf) → Inv L (after_step s) now → (AllQuiet L rest → Inv L (after_run next) (moved_all rest now) × EachStep rest now)
-          → (o : Outcome) → AllQuiet L (only_made o rest) → Inv L (after_run (onward o k s next)) (moved_all (only_made o rest) now) × EachStep (only_made o rest) now
-      by s now rest next i f (outcome.Made e) h = f h
-      by s now rest next i f (outcome.Stopped x) h = (i, tt)
-      by s now rest next i f (outcome.Refused x) h = (i, tt)
+          → (o : Result Event Unmade) → AllQuiet L (only_made o rest) → Inv L (after_run (onward o k s next)) (moved_all (only_made o rest) now) × EachStep (only_made o rest) now
+      by s now rest next i f (Ok e) h = f h
+      by s now rest next i f (Err (Stopped x)) h = (i, tt)
+      by s now rest next i f (Err (Refused x)) h = (i, tt)
 
   -- ---- a call
   kind_turns : (k : Kind) (c : Call) (s : State) (b : AbstractLists) → Inv L s b → AllQuiet L (kind_args k c s) → Inv L (after_kind k c s) (moved_all (kind_args k c s) b) × EachStep (kind_args k c s) b
   kind_turns step c s b i q =
       let t = step_turns L (args c.image s.registers c.requests c.ranges s.memory) b i q.0 in (t.inv, (t.restored, t.stops, tt))
   kind_turns (run n) c s b i q =
-      let t = run_turns n c.image c.ranges (outcome.Made event.Instruction) 0 s.registers c.requests s.memory b i q in
+      let t = run_turns n c.image c.ranges (Ok event.Instruction) 0 s.registers c.requests s.memory b i q in
       (rw (run_state n c.image.bytes s.registers c.requests c.ranges s.memory) t.0, t.1)
 
   -- ---- a series

@@ -1,13 +1,14 @@
 -- A series of calls, of steps and runs, each with its own image, ranges and requests; and the arguments of its steps.
-use Rattle.std.specs.Prelude.{ℕ, zero, suc, List, [], ◌∷◌, ◌++◌}
+use Rattle.std.specs.Prelude.{ℕ, zero, suc, List, [], ◌∷◌, ◌++◌, Err, Ok, Result}
 use Rattle.memory.specs.Memory.{Memory}
 use Rattle.registers.specs.declared.Registers.{Registers}
 use Rattle.protection.specs.declared.range.Range.{Range}
 use Rattle.decisions.specs.Valid.{Bytes}
 use Rattle.machine.specs.Step.{StepOf, step_of}
 use Rattle.machine.specs.Run.{RunOf, run_of}
-use Rattle.machine.specs.declared.answer.Outcome.{Outcome}
-use Rattle.machine.specs.declared.answer.Outcome.TheVariants.{Made, Stopped, Refused}
+use Rattle.events.specs.declared.event.Event.{Event}
+use Rattle.machine.specs.declared.answer.Unmade.{Unmade}
+use Rattle.machine.specs.declared.answer.Unmade.TheVariants.{Refused, Stopped}
 
 -- a string of bytes
 pub record Image : Type 0 where
@@ -64,10 +65,10 @@ args img r xs rs m = record { image = img; registers = r; requests = xs; ranges 
 abbrev pub step_at : Args → StepOf
 step_at a = step_of a.image.bytes a.registers a.requests a.ranges a.memory
 
-abbrev pub only_made : Outcome → List Args → List Args
-only_made (Made e) rest = rest
-only_made (Stopped x) rest = []
-only_made (Refused x) rest = []
+abbrev pub only_made : Result Event Unmade → List Args → List Args
+only_made (Ok e) rest = rest
+only_made (Err (Stopped x)) rest = []
+only_made (Err (Refused x)) rest = []
 
 -- a run counts as its steps: each with what the one before left, to the first that is not made
 unfoldable pub run_args : ℕ → Image → List Range → Registers → List ℕ → Memory → List Args

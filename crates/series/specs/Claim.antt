@@ -12,12 +12,13 @@ use Rattle.fields.specs.declared.link.Link.{Link}
 use Rattle.lists.specs.Lists.{Leads, count}
 use Rattle.contexts.specs.Context.{ul_of}
 use Rattle.execute.specs.Decision.{Decision, Keep, Write, Save, Return}
-use Rattle.machine.specs.declared.answer.Outcome.{Outcome}
-use Rattle.machine.specs.declared.answer.Outcome.TheVariants as outcome
 use Rattle.series.specs.Abstract.{named, held, SavedContext, AbstractLists, links}
 use Rattle.series.specs.Calls.{Call, State, after_all, Args, step_at, all_args}
 use Rattle.series.specs.Conditions.{verdict_at, decision_at, moved_at, moved_all, AllQuiet}
 use Rattle.inputs.specs.declared.verdict.Refusal.{Refusal}
+use Rattle.events.specs.declared.event.Event.{Event}
+use Rattle.machine.specs.declared.answer.Unmade.{Unmade}
+use Rattle.machine.specs.declared.answer.Unmade.TheVariants.{Refused, Stopped}
 
 -- link 0 ends a list
 abbrev pub end : Link
@@ -52,10 +53,10 @@ RestoredBy (Save e half saved-pc then) q b = Unit {0}
 RestoredBy (Return half then) q b = (c : SavedContext) × (cs : List SavedContext) × (b.saved ≡ c ∷ cs) × (c.half ≡ half) × (named half q ≡ c.registers)
 
 -- a step that is not made moves nothing
-abbrev pub StopsBy : Outcome → AbstractLists → AbstractLists → Type 0
-StopsBy (outcome.Made e) before now = Unit {0}
-StopsBy (outcome.Stopped x) before now = now ≡ before
-StopsBy (outcome.Refused x) before now = now ≡ before
+abbrev pub StopsBy : Result Event Unmade → AbstractLists → AbstractLists → Type 0
+StopsBy (Ok e) before now = Unit {0}
+StopsBy (Err (Stopped x)) before now = now ≡ before
+StopsBy (Err (Refused x)) before now = now ≡ before
 
 abbrev pub StepBy : Result ⊤ Refusal → Args → AbstractLists → Type 0
 StepBy (Err x) a b = Unit {0}

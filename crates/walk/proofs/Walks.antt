@@ -15,14 +15,15 @@ use Rattle.protection.specs.declared.range.Range.{Range}
 use Rattle.inputs.specs.declared.verdict.Refusal.{Refusal}
 use Rattle.permits.specs.declared.Permits.{Permits}
 use Rattle.machine.specs.Step.{StepOf, stepped, step_of}
-use Rattle.machine.specs.declared.answer.Outcome.{Outcome}
-use Rattle.machine.specs.declared.answer.Outcome.TheVariants.{Made, Stopped, Refused}
 use Rattle.walk.specs.Start.{window_of, no_ranges}
 use Rattle.walk.specs.Text.{line_of, stop_of, end_of, refused_of}
 use Rattle.walk.specs.Written.{Written}
 use Rattle.walk.specs.Walk.{all_steps, is_trap, is_last, step_from, printed}
 use Rattle.walk.specs.Blocks.{Block, block, full, made_by, block_from}
 use Rattle.walk.proofs.Texts.{then, roomier}
+use Rattle.std.specs.Prelude.{Err, Ok, Result}
+use Rattle.machine.specs.declared.answer.Unmade.{Unmade}
+use Rattle.machine.specs.declared.answer.Unmade.TheVariants.{Refused, Stopped}
 
 -- ---- a block by its next step
 abbrev pub after : List ℕ → ℕ → Registers → List ℕ → StepOf → Block
@@ -81,11 +82,11 @@ module _ (img : List ℕ) (made₀ : ℕ) (r₀ : Registers) (xs₀ w₀ out₀ 
     pub ended : {out' : List ℕ} {most at' : ℕ} → all_steps ≤ made → Written out at (end_of made) most out' at' → Done out' made true r xs w at'
     ended h k = record { text = t.text ++ end_of made; most = _; wrote = then t.wrote k; is = t.same ∙ block_end img made r xs w t.text h }
 
-    module _ (below : made < all_steps) (room : at ≤ full) {o : Outcome} {r' : Registers} {xs' w' : List ℕ} {p : Permits} {rs : List Range} (none : rs ≡ no_ranges) (is : stepped o r' xs' (window_of w') p ≡ step_of img r xs rs (window_of w)) where
+    module _ (below : made < all_steps) (room : at ≤ full) {o : Result Event Unmade} {r' : Registers} {xs' w' : List ℕ} {p : Permits} {rs : List Range} (none : rs ≡ no_ranges) (is : stepped o r' xs' (window_of w') p ≡ step_of img r xs rs (window_of w)) where
       next : due ≡ after img made r t.text (stepped o r' xs' (window_of w') p)
       next = t.same ∙ block_step img made r xs w t.text below (omega (arith, t.wrote.ends)) (stepped o r' xs' (window_of w') p) (is ∙ rw none)
 
-      module _ {v : Event} (made-it : o ≡ Made v) where
+      module _ {v : Event} (made-it : o ≡ Ok v) where
         abbrev pub line : List ℕ
         line = line_of v (pc r) (pc r') (fcx r') (pcxi r')
 
@@ -103,8 +104,8 @@ module _ (img : List ℕ) (made₀ : ℕ) (r₀ : Registers) (xs₀ w₀ out₀ 
         pub trapped : {out' out'' : List ℕ} {most last at' at'' : ℕ} → Written out at line most out' at' → is_trap v ≡ true → Written out' at' (end_of (made + 1)) last out'' at'' → Done out'' (made + 1) true r' xs' w' at''
         trapped k f z = record { text = t.text ++ (line ++ end_of (made + 1)); most = _; wrote = then t.wrote (then k z); is = next ∙ rw (made-it, f) }
 
-      pub stopped : {x : Stop} {out' out'' : List ℕ} {most last at' at'' : ℕ} → o ≡ Stopped x → Written out at (stop_of x) most out' at' → Written out' at' (end_of made) last out'' at'' → Done out'' made true r' xs' w' at''
+      pub stopped : {x : Stop} {out' out'' : List ℕ} {most last at' at'' : ℕ} → o ≡ Err (Stopped x) → Written out at (stop_of x) most out' at' → Written out' at' (end_of made) last out'' at'' → Done out'' made true r' xs' w' at''
       stopped {x} e k z = record { text = t.text ++ (stop_of x ++ end_of made); most = _; wrote = then t.wrote (then k z); is = next ∙ rw e }
 
-      pub refused : {x : Refusal} {out' : List ℕ} {most at' : ℕ} → o ≡ Refused x → Written out at (refused_of x) most out' at' → Done out' made true r' xs' w' at'
+      pub refused : {x : Refusal} {out' : List ℕ} {most at' : ℕ} → o ≡ Err (Refused x) → Written out at (refused_of x) most out' at' → Done out' made true r' xs' w' at'
       refused {x} e k = record { text = t.text ++ refused_of x; most = _; wrote = then t.wrote k; is = next ∙ rw e }

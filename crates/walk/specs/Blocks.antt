@@ -3,13 +3,14 @@ use Rattle.std.specs.Prelude.{ℕ, zero, suc, ◌+◌, ◌-◌, ◌<◌, ◌≤�
 use Rattle.std.proofs.lemmas.List.Edits.{sets}
 use Rattle.registers.specs.Registers.{pc}
 use Rattle.registers.specs.declared.Registers.{Registers}
-use Rattle.machine.specs.declared.answer.Outcome.{Outcome}
-use Rattle.machine.specs.declared.answer.Outcome.TheVariants.{Made, Stopped, Refused}
 use Rattle.walk.specs.Start.{start_bytes, start_registers, start_verdict_of}
 use Rattle.walk.specs.Text.{header_text, end_of, refused_of, long_text}
 use Rattle.walk.specs.Walk.{longest, all_steps, is_last, step_from, printed, walk_from}
 use Rattle.walk.specs.declared.blocks.Walk.{Walk}
 use Rattle.inputs.specs.declared.verdict.Refusal.{Refusal}
+use Rattle.events.specs.declared.event.Event.{Event}
+use Rattle.machine.specs.declared.answer.Unmade.{Unmade}
+use Rattle.machine.specs.declared.answer.Unmade.TheVariants.{Refused, Stopped}
 
 -- a block: where the walk stands after it, and its text
 pub record Block : Type 0 where
@@ -49,10 +50,10 @@ abbrev pub full : ℕ
 full = 65408
 
 -- a stop and a refusal are no step made
-abbrev pub made_by : Outcome → ℕ → ℕ
-made_by (Made e) made = made + 1
-made_by (Stopped x) made = made
-made_by (Refused x) made = made
+abbrev pub made_by : Result Event Unmade → ℕ → ℕ
+made_by (Ok e) made = made + 1
+made_by (Err (Stopped x)) made = made
+made_by (Err (Refused x)) made = made
 
 -- the block with `text` in it so far, after `made` steps and with at most n more
 unfoldable pub block_from : ℕ → List ℕ → ℕ → Registers → List ℕ → List ℕ → List ℕ → Block

@@ -5,11 +5,11 @@ use Rattle.registers.specs.declared.Registers.{Registers}
 use Rattle.events.specs.declared.event.Event.{Event}
 use Rattle.events.specs.declared.event.Event.TheVariants.{Instruction, Interrupt, Trap}
 use Rattle.machine.specs.Step.{StepOf, step_of}
-use Rattle.machine.specs.declared.answer.Outcome.{Outcome}
-use Rattle.machine.specs.declared.answer.Outcome.TheVariants.{Made, Stopped, Refused}
 use Rattle.walk.specs.Start.{window_of, start_bytes, start_registers, start_verdict_of, no_ranges}
 use Rattle.walk.specs.Text.{header_text, line_of, stop_of, end_of, refused_of, long_text}
 use Rattle.inputs.specs.declared.verdict.Refusal.{Refusal}
+use Rattle.machine.specs.declared.answer.Unmade.{Unmade}
+use Rattle.machine.specs.declared.answer.Unmade.TheVariants.{Refused, Stopped}
 
 -- bytes of the longest image
 abbrev pub longest : ℕ
@@ -26,20 +26,20 @@ is_trap (Interrupt source) = false
 is_trap (Trap t) = true
 
 -- and with a stop or a refusal
-abbrev pub is_last : Outcome → Bool
-is_last (Made e) = is_trap e
-is_last (Stopped x) = true
-is_last (Refused x) = true
+abbrev pub is_last : Result Event Unmade → Bool
+is_last (Ok e) = is_trap e
+is_last (Err (Stopped x)) = true
+is_last (Err (Refused x)) = true
 
 -- the step that registers r, requests xs and the window's bytes w make
 abbrev pub step_from : List ℕ → Registers → List ℕ → List ℕ → StepOf
 step_from img r xs w = step_of img r xs no_ranges (window_of w)
 
 -- what a step with that outcome prints, from PC `at` on and `made` steps before it
-abbrev pub printed : Outcome → ℕ → ℕ → Registers → List ℕ
-printed (Made e) made at r = line_of e at (pc r) (fcx r) (pcxi r) ++ cond (is_trap e) (end_of (made + 1)) []
-printed (Stopped x) made at r = stop_of x ++ end_of made
-printed (Refused x) made at r = refused_of x
+abbrev pub printed : Result Event Unmade → ℕ → ℕ → Registers → List ℕ
+printed (Ok e) made at r = line_of e at (pc r) (fcx r) (pcxi r) ++ cond (is_trap e) (end_of (made + 1)) []
+printed (Err (Stopped x)) made at r = stop_of x ++ end_of made
+printed (Err (Refused x)) made at r = refused_of x
 
 -- what at most n steps more print, after `made`
 unfoldable pub walk_from : ℕ → List ℕ → ℕ → Registers → List ℕ → List ℕ → List ℕ

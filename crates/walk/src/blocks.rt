@@ -118,7 +118,7 @@ pub fn go_on(image: &[u8], w: Walk, out: &mut [u8; 65536]) -> Walk
         requests = s.requests;
         let outcome = s.outcome;
         match outcome {
-            Outcome::Made(e) => {
+            Ok(e) => {
                 at = put_line(
                     out,
                     at,
@@ -141,7 +141,7 @@ pub fn go_on(image: &[u8], w: Walk, out: &mut [u8; 65536]) -> Walk
                     };
                 }
             }
-            Outcome::Stopped(x) => {
+            Err(Unmade::Stopped(x)) => {
                 let stopped = put_stop(out, at, x);
                 let last = put_end(out, stopped, made);
                 return Walk {
@@ -153,7 +153,7 @@ pub fn go_on(image: &[u8], w: Walk, out: &mut [u8; 65536]) -> Walk
                     len: last,
                 };
             }
-            Outcome::Refused(x) => {
+            Err(Unmade::Refused(x)) => {
                 let refused = put_refused(out, at, x);
                 return Walk {
                     window: window,

@@ -1,5 +1,5 @@
 -- What is shown: the start is accepted, the series meets the two conditions, and this is what happens in it.
-use Rattle.std.specs.Prelude.{◌≡◌, List, [], ◌∷◌, ◌++◌, Ok}
+use Rattle.std.specs.Prelude.{◌≡◌, List, [], ◌∷◌, ◌++◌, Ok, Err, Result}
 use Rattle.memory.specs.Memory.{Memory}
 use Rattle.memory.specs.Word.{word_at}
 use Rattle.areas.specs.Place.{spot_of}
@@ -13,28 +13,29 @@ use Rattle.events.specs.declared.event.Event.TheVariants.{Instruction, Interrupt
 use Rattle.events.specs.declared.event.Stop.TheVariants.{NoArea}
 use Rattle.inputs.specs.Checks.{start_verdict}
 use Rattle.inputs.specs.declared.verdict.Refusal.TheVariants.{Table}
-use Rattle.machine.specs.declared.answer.Outcome.{Outcome}
-use Rattle.machine.specs.declared.answer.Outcome.TheVariants.{Made, Stopped, Refused}
 use Rattle.series.specs.Calls.{after_all, Args, step_at, all_args}
 use Rattle.series.specs.Conditions.{moved_all, AllQuiet}
 use Rattle.series.specs.Claim.{Agree, listed, Claim}
 use Rattle.witness.specs.Start.{start}
 use Rattle.witness.specs.Series.{interrupted, saving_calls, returning_calls, calls}
 use Rattle.witness.specs.Lists.{begun, depleted, all_free, ended}
+use Rattle.events.specs.declared.event.Event.{Event}
+use Rattle.machine.specs.declared.answer.Unmade.{Unmade}
+use Rattle.machine.specs.declared.answer.Unmade.TheVariants.{Refused, Stopped}
 
-abbrev pub outcomes : List Args → List Outcome
+abbrev pub outcomes : List Args → List (Result Event Unmade)
 outcomes [] = []
 outcomes (a ∷ rest) = (step_at a).outcome ∷ outcomes rest
 
 -- the interrupt of source 3; the CALL, which ends in trap 3/1, the store, and stop 11; refusal 2; RFE, RET, RFE, RET, RSLCX; BISR; trap 1/4
-abbrev pub happening : List Outcome
+abbrev pub happening : List (Result Event Unmade)
 happening =
-    Made (Interrupt 3)
-    ∷ Made (Trap FCD) ∷ Made Instruction ∷ Stopped NoArea
-    ∷ Refused (Table 0)
-    ∷ Made Instruction ∷ Made Instruction ∷ Made Instruction ∷ Made Instruction ∷ Made Instruction
-    ∷ Made Instruction
-    ∷ Made (Trap MPX) ∷ []
+    Ok (Interrupt 3)
+    ∷ Ok (Trap FCD) ∷ Ok Instruction ∷ Err (Stopped NoArea)
+    ∷ Err (Refused (Table 0))
+    ∷ Ok Instruction ∷ Ok Instruction ∷ Ok Instruction ∷ Ok Instruction ∷ Ok Instruction
+    ∷ Ok Instruction
+    ∷ Ok (Trap MPX) ∷ []
 
 -- after the returns: D, A and PSW are those of the contexts that were saved before the series
 abbrev pub loaded : Registers

@@ -1,5 +1,4 @@
 use Rattle.std.proofs.Common.{sym, refl, ◌∙◌, arith}
-use Rattle.protection.specs.Range.{ranges_in}
 use Rattle.spans.proofs.Spans.{ahead_known, place_end, place_in}
 use Rattle.machine.proofs.Turns.{image_holds}
 use Rattle.machine.proofs.Walks.{walk_first, walk_is, walk_next, goes_first, goes_read, goes_index, goes_place, ends_stopped, ends_made}
@@ -9,7 +8,7 @@ pub next_after-next-requires : goal.next_after-next-requires
 next_after-next-requires c =
     let p = c.requires in
     let g = c.args in
-    let s = (ahead_known g.image.now g.registers.now.core (ranges_in g.words.now) g.guide.long g.s (image_holds _ _ _ p.ready.accepted) p.guides.all_long p.lies_ahead).0 in
+    let s = (ahead_known g.image.now g.registers.now.core g.ranges.now g.guide.long g.s (image_holds _ _ _ p.ready.accepted) p.guides.all_long p.lies_ahead).0 in
     omega (arith, s.lies.inside, s.spans.some)
 
 pub loop-left-init : goal.loop-left-init
@@ -45,13 +44,13 @@ pub returns-then-left-eq0 : goal.returns-then-left-eq0
 returns-then-left-eq0 c =
     let g = c.loop-left.invariant.1 in
     let i = goes_read _ _ _ _ _ _ _ g c.read_record-i.ensures in
-    ends_made _ _ _ _ _ g.walk.stands (walk_is _ _ _ _ _ _ _ g.walk i c.execute_instruction-done.ensures.performed) _ (sym c.ending_of-ending.ensures) c.in-Made.field-0 c.in-Made.is
+    ends_made _ _ _ _ _ g.walk.stands (walk_is _ _ _ _ _ _ _ g.walk i c.execute_instruction-done.ensures.performed) _ (sym c.ending_of-ending.ensures) c.in-Ok.field-0 c.in-Ok.is
 
 pub returns-then-not-steady : goal.returns-then-not-steady
 returns-then-not-steady c =
     let g = c.loop-left.invariant.1 in
     let i = goes_read _ _ _ _ _ _ _ g c.read_record-i.ensures in
-    ends_made _ _ _ _ _ g.walk.stands (walk_is _ _ _ _ _ _ _ g.walk i c.execute_instruction-done.ensures.performed) _ (sym c.ending_of-ending.ensures) c.in-Made.field-0 c.in-Made.is
+    ends_made _ _ _ _ _ g.walk.stands (walk_is _ _ _ _ _ _ _ g.walk i c.execute_instruction-done.ensures.performed) _ (sym c.ending_of-ending.ensures) c.in-Ok.field-0 c.in-Ok.is
 
 pub loop-left-smaller-then-k-s : goal.loop-left-smaller-then-k-s
 loop-left-smaller-then-k-s c = let w = c.loop-left.invariant.1.walk in omega (arith, w.stands.some)
@@ -78,7 +77,7 @@ pub returns-then-s-at : goal.returns-then-s-at
 returns-then-s-at c =
     let g = c.loop-left.invariant.1 in
     let i = goes_read _ _ _ _ _ _ _ g c.read_record-i.ensures in
-    ends_made _ _ _ _ _ g.walk.stands (walk_is _ _ _ _ _ _ _ g.walk i c.execute_instruction-done.ensures.performed) _ (sym c.ending_of-ending.ensures) c.in-Made.field-0 c.in-Made.is
+    ends_made _ _ _ _ _ g.walk.stands (walk_is _ _ _ _ _ _ _ g.walk i c.execute_instruction-done.ensures.performed) _ (sym c.ending_of-ending.ensures) c.in-Ok.field-0 c.in-Ok.is
 
 pub next_after-next-requires-in-loop-left : goal.next_after-next-requires-in-loop-left
 next_after-next-requires-in-loop-left c = let g = c.loop-left.invariant.1 in let y = g.walk.span.lies in omega (arith, y.ends, y.inside, c.if-s-at.false)

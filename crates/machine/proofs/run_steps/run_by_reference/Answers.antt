@@ -18,7 +18,7 @@ pub loop-left-smaller-then-taken : goal.loop-left-smaller-then-taken
 loop-left-smaller-then-taken c = omega (arith, c.loop-left-test.true)
 
 pub loop-left-preserved-then-taken : goal.loop-left-preserved-then-taken
-loop-left-preserved-then-taken c = ((c.interrupt.auto.window ∙ c.loop-left.invariant.0.0, c.interrupt.auto.window2 ∙ c.loop-left.invariant.0.1), turn_interrupt _ _ _ _ _ _ c.loop-left.invariant.1 (omega (arith, c.loop-left-test.true)) (sym c.taken.ensures ∙ c.if-taken.true) c.interrupt.ensures _ (sym c.passed_on-ending.ensures ∙ c.in-Made.is) _ c.clear.ensures _ c.best_source-best.ensures.0)
+loop-left-preserved-then-taken c = ((c.interrupt.auto.window ∙ c.loop-left.invariant.0.0, c.interrupt.auto.window2 ∙ c.loop-left.invariant.0.1), turn_interrupt _ _ _ _ _ _ c.loop-left.invariant.1 (omega (arith, c.loop-left-test.true)) (sym c.taken.ensures ∙ c.if-taken.true) c.interrupt.ensures _ (sym c.passed_on-ending.ensures ∙ c.in-Ok.is) _ c.clear.ensures _ c.best_source-best.ensures.0)
 
 pub instructions-p-requires : goal.instructions-p-requires
 instructions-p-requires c = record { ready = c.loop-left.invariant.1.ready; guides = c.requires.guides; n_nonzero = omega (arith, c.loop-left-test.true) }
@@ -30,10 +30,10 @@ pub returns-in_default-ending : goal.returns-in_default-ending
 returns-in_default-ending c = rw c.in_default-ending.is (stop_instructions _ _ _ _ _ _ c.loop-left.invariant.1 (omega (arith, c.loop-left-test.true)) (sym c.taken.ensures ∙ c.if-taken.false) c.instructions-p.ensures _ c.in_default-ending.is)
 
 pub loop-left-smaller : goal.loop-left-smaller
-loop-left-smaller c = c.instructions-p.ensures.some _ c.in-Made-ending.is
+loop-left-smaller c = c.instructions-p.ensures.some _ c.in-Ok-ending.is
 
 pub loop-left-preserved : goal.loop-left-preserved
-loop-left-preserved c = ((c.instructions-p.auto.window ∙ c.loop-left.invariant.0.0, c.instructions-p.auto.window2 ∙ c.loop-left.invariant.0.1), turn_instructions _ _ _ _ _ _ c.loop-left.invariant.1 (omega (arith, c.loop-left-test.true)) (sym c.taken.ensures ∙ c.if-taken.false) c.instructions-p.ensures _ c.in-Made-ending.is)
+loop-left-preserved c = ((c.instructions-p.auto.window ∙ c.loop-left.invariant.0.0, c.instructions-p.auto.window2 ∙ c.loop-left.invariant.0.1), turn_instructions _ _ _ _ _ _ c.loop-left.invariant.1 (omega (arith, c.loop-left-test.true)) (sym c.taken.ensures ∙ c.if-taken.false) c.instructions-p.ensures _ c.in-Ok-ending.is)
 
 pub returns : goal.returns
 returns c = turn_end _ _ _ _ _ _ c.loop-left.invariant.1 (omega (arith, c.loop-left-test.false))
