@@ -15,7 +15,7 @@ use Rattle.events.specs.declared.event.Stop.TheVariants.{NoArea, Outside}
 use Rattle.contexts.specs.Save.{room_at}
 use Rattle.std.specs.Prelude.{Option, Some, None, Result, Ok, Err, ok_or}
 
-never_room : {s : Stop} {at : ℕ} → ◌≡◌ {A = Result ℕ Stop} (Err s) (Ok at) → ⊥
+pub never_room : {s : Stop} {at : ℕ} → ◌≡◌ {A = Result ℕ Stop} (Err s) (Ok at) → ⊥
 never_room e = let z : ◌≡◌ {A = ℕ} 0 1 = cc in omega arith
 
 by_place : (p : Option ℕ) (at : ℕ) → ok_or p Outside ≡ Ok at → p ≡ Some at

@@ -19,7 +19,7 @@ use Rattle.registers.specs.declared.Registers.{Registers}
 use Rattle.events.specs.Traps.{FCD}
 use Rattle.events.specs.declared.event.Event.{Event}
 use Rattle.events.specs.declared.event.Stop.{Stop}
-use Rattle.events.specs.declared.event.Stop.TheVariants.{NoArea}
+use Rattle.events.specs.declared.event.Stop.TheVariants.{NoArea, Outside}
 use Rattle.fields.specs.Link.{link_of}
 use Rattle.areas.specs.Place.{place_of}
 use Rattle.fields.specs.declared.link.Link.{Link}
@@ -40,14 +40,14 @@ use Rattle.series.specs.Calls.{state}
 use Rattle.series.specs.Claim.{end}
 use Rattle.series.proofs.Frames.{place_same}
 use Rattle.series.proofs.Invariant.{Inv, save_inv}
-use Rattle.std.specs.Prelude.{Err, Ok, Some}
+use Rattle.std.specs.Prelude.{Err, Ok, Some, Option, ok_or}
 
 -- ---- the area for a save, from the free list
 no_room : (m : Memory) (l : Link) → l ≡ end → room_of m l ≡ Err NoArea
 no_room m l e = sym (room_none m.windows (length m.bytes) l (ap (λ (l : Link). l.0) e))
 
 some_room : (m : Memory) (l : Link) (at : ℕ) → (l.0 ≡ 0 → ⊥) → place_of m l ≡ Some at → room_of m l ≡ Ok at
-some_room m l at z p = sym (room_some m.windows (length m.bytes) l z (place_of m l) refl at p)
+some_room m l at z p = sym (room_some m.windows (length m.bytes) l z (place_of m l) refl) ∙ ap (λ (q : Option ℕ). ok_or q Outside) p
 
 -- ---- the upper registers without the heads
 

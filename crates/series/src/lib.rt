@@ -11,7 +11,7 @@ ghost use Rattle.inputs.specs.Rules.{StartSays};
 ghost use Rattle.series.specs.Calls.{state};
 ghost use Rattle.series.specs.Claim.{Follows};
 
-use inputs::verdict::Verdict;
+use inputs::verdict::Refusal;
 use memory::address::Address;
 use registers::{FCX, PC, PCXI, Registers};
 
@@ -25,7 +25,7 @@ pub fn start<'a>(
     registers: Registers,
 ) -> Result<(), Refusal>
     ensures verdict { (result ≡ start_verdict (lent base window.now base2 window2.now) image.now (pc registers) (fcx registers) (pcxi registers)) × Exactly (StartSays (lent base window.now base2 window2.now) image.now (pc registers) (fcx registers) (pcxi registers)) result }
-    ensures follows { (result ≡ (Ok tt)) → Follows (state registers (lent base window.now base2 window2.now)) }
+    ensures follows { result ≡ Ok tt → Follows (state registers (lent base window.now base2 window2.now)) }
 {
     inputs::checks::try_start(
         base,

@@ -7,7 +7,7 @@ ghost use Rattle.walk.specs.Start.{window_of};
 
 use crate::start::BASE;
 use inputs::checks::try_start;
-use inputs::verdict::Verdict;
+use inputs::verdict::Refusal;
 use machine::answer::Stepped;
 use machine::steps::step;
 use memory::address::Address;

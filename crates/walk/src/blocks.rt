@@ -8,7 +8,7 @@ use crate::alone::{step_alone, try_alone};
 use crate::lines::{put_end, put_header, put_line, put_long, put_refused, put_stop};
 use crate::start::{no_ranges, start_registers, start_window};
 use events::event::Event;
-use inputs::verdict::Verdict;
+use inputs::verdict::Refusal;
 use machine::answer::Outcome;
 use registers::{FCX, PC, PCXI, Registers};
 
