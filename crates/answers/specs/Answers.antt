@@ -32,11 +32,15 @@ event_answer (event.Trap t) permits made = packed_of 2 t.class t.tin permits mad
 abbrev pub refusal_answer : Refusal → ℕ → ℕ
 refusal_answer x permits = packed_of 4 (number_of x) 0 permits (fault_of x)
 
--- 3 a stop, with its number
+-- 3 a stop, with its number; or a refusal
+abbrev pub unmade_answer : Unmade → ℕ → ℕ → ℕ
+unmade_answer (Stopped s) permits made = packed_of 3 (stop_number s) 0 permits made
+unmade_answer (Refused x) permits made = refusal_answer x permits
+
+-- of a step or a run that has made so many steps
 abbrev pub outcome_answer : Result Event Unmade → ℕ → ℕ → ℕ
 outcome_answer (Ok e) permits made = event_answer e permits made
-outcome_answer (Err (Stopped s)) permits made = packed_of 3 (stop_number s) 0 permits made
-outcome_answer (Err (Refused x)) permits made = refusal_answer x permits
+outcome_answer (Err u) permits made = unmade_answer u permits made
 
 -- 5 a record of a wrong length
 abbrev pub wrong_length : ℕ

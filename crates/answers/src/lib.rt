@@ -3,13 +3,12 @@
 #![tactic(auto)]
 
 ghost use Rattle.std.specs.Prelude.{◌≡◌, ◌<◌};
-ghost use Rattle.answers.specs.Answers.{packed_of, permit_number, permits_number, event_answer, refusal_answer, outcome_answer, wrong_length, verdict_answer};
+ghost use Rattle.answers.specs.Answers.{packed_of, permit_number, permits_number, event_answer, refusal_answer, unmade_answer, outcome_answer, wrong_length, verdict_answer};
 
 use events::event::{Event, stop_number};
-use inputs::verdict::{Refusal, Verdict, fault, number};
-use machine::answer::Outcome;
+use inputs::verdict::{Refusal, fault, number};
+use machine::answer::Unmade;
 use permits::Permits;
-use protection::range::Permit;
 
 fn packed(kind: u8, number: u8, tin: u8, permits: u8, high: u32) -> u64
     ensures { result ≡ packed_of kind number tin permits high }
@@ -35,9 +34,7 @@ fn permit(p: Option<usize>) -> u8
 pub fn permits(p: Permits) -> u8
     ensures { result ≡ permits_number p }
 {
-    let fetch = p.fetch;
-    let access = p.access;
-    permit(fetch) + permit(access) * 8
+    permit(p.fetch) + permit(p.access) * 8
 }
 
 fn event_answer(e: Event, permits: u8, high: u32) -> u64
@@ -56,14 +53,22 @@ fn refusal_answer(x: Refusal, permits: u8) -> u64
     packed(4, number(x) as u8, 0, permits, fault(x))
 }
 
+fn unmade_answer(u: Unmade, permits: u8, made: u32) -> u64
+    ensures { result ≡ unmade_answer u permits made }
+{
+    match u {
+        Unmade::Stopped(s) => packed(3, stop_number(s) as u8, 0, permits, made),
+        Unmade::Refused(x) => refusal_answer(x, permits),
+    }
+}
+
 // Of a step or a run that has made so many steps.
 pub fn outcome_answer(o: Result<Event, Unmade>, permits: u8, made: u32) -> u64
     ensures { result ≡ outcome_answer o permits made }
 {
     match o {
         Ok(e) => event_answer(e, permits, made),
-        Err(Unmade::Stopped(s)) => packed(3, stop_number(s) as u8, 0, permits, made),
-        Err(Unmade::Refused(x)) => refusal_answer(x, permits),
+        Err(u) => unmade_answer(u, permits, made),
     }
 }
 

@@ -10,7 +10,7 @@ use fields::link::Link;
 use integer::{Integer, compute};
 use interrupts::taken;
 use memory::address::Address;
-use protection::range::{Permit, Right, search};
+use protection::range::{Range, Right, search};
 use std::io::{self, Write};
 
 fn main(rt: HostRuntime) -> io::Result<()> {

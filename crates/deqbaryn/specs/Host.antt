@@ -44,8 +44,7 @@ called n bytes m = record { answer = n; core = bytes; memory = m }
 -- the record after a step: a refusal and a stop leave it as it was
 abbrev pub step_stored : Result Event Unmade → Registers → List ℕ → List ℕ → List ℕ
 step_stored (Ok e) r xs bytes = stored_in r xs bytes
-step_stored (Err (Stopped s)) r xs bytes = bytes
-step_stored (Err (Refused x)) r xs bytes = bytes
+step_stored (Err u) r xs bytes = bytes
 
 -- and after a run, which stores what its last step made left
 abbrev pub run_stored : Result Event Unmade → Registers → List ℕ → List ℕ → List ℕ

@@ -9,7 +9,8 @@ ghost use Rattle.deqbaryn.specs.Host.{version, start_answer, StartTells, step_st
 ghost use Rattle.deqbaryn.specs.Calls.{AcceptedFollows};
 
 use answers::{outcome_answer, permits, verdict_answer, wrong_length};
-use machine::answer::Outcome;
+use events::event::Event;
+use machine::answer::Unmade;
 use machine::steps::{run, step};
 use memory::address::as_address;
 use records::{read_ranges, read_registers, read_requests, write_back};
@@ -49,19 +50,27 @@ pub extern "C" fn deqbaryn_start<'a>(
 }
 
 // A refused or stopped step leaves the record as it was.
-fn store_step(core: &mut [u8], outcome: Result<Event, Unmade>, registers: Registers, requests: [u32; 16])
+fn store_step(
+    core: &mut [u8],
+    outcome: Result<Event, Unmade>,
+    registers: Registers,
+    requests: [u32; 16],
+)
     requires { length core.old ≡ 616 }
     ensures { core.new ≡ step_stored outcome registers requests core.old }
 {
-    match outcome {
-        Ok(_) => write_back(core, registers, requests),
-        Err(Unmade::Stopped(_)) => {}
-        Err(Unmade::Refused(_)) => {}
+    if outcome.is_ok() {
+        write_back(core, registers, requests);
     }
 }
 
 // A run that stops leaves the record as its last step made left it.
-fn store_run(core: &mut [u8], outcome: Result<Event, Unmade>, registers: Registers, requests: [u32; 16])
+fn store_run(
+    core: &mut [u8],
+    outcome: Result<Event, Unmade>,
+    registers: Registers,
+    requests: [u32; 16],
+)
     requires { length core.old ≡ 616 }
     ensures { core.new ≡ run_stored outcome registers requests core.old }
 {
@@ -94,12 +103,8 @@ pub extern "C" fn deqbaryn_step(
     let first = as_address(base);
     let second = as_address(base2);
     let s = step(first, window, second, window2, image, r, xs, rs);
-    let outcome = s.outcome;
-    let after = s.registers;
-    let requests = s.requests;
-    let named = s.permits;
-    store_step(core, outcome, after, requests);
-    outcome_answer(outcome, permits(named), 0)
+    store_step(core, s.outcome, s.registers, s.requests);
+    outcome_answer(s.outcome, permits(s.permits), 0)
 }
 
 #[unsafe(no_mangle)]
@@ -126,9 +131,6 @@ pub extern "C" fn deqbaryn_run(
     let first = as_address(base);
     let second = as_address(base2);
     let v = run(first, window, second, window2, image, r, xs, rs, n);
-    let outcome = v.outcome;
-    let after = v.registers;
-    let requests = v.requests;
-    store_run(core, outcome, after, requests);
-    outcome_answer(outcome, 0, v.made)
+    store_run(core, v.outcome, v.registers, v.requests);
+    outcome_answer(v.outcome, 0, v.made)
 }

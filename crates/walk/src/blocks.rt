@@ -9,7 +9,7 @@ use crate::lines::{put_end, put_header, put_line, put_long, put_refused, put_sto
 use crate::start::{no_ranges, start_registers, start_window};
 use events::event::Event;
 use inputs::verdict::Refusal;
-use machine::answer::Outcome;
+use machine::answer::Unmade;
 use registers::{FCX, PC, PCXI, Registers};
 
 // Where a walk stands after a block of len bytes.

@@ -1,15 +1,7 @@
-use Rattle.answers.proofs.Numbers.{stop_small}
-use native.Mathlib.Omega.{arith}
 use Rattle.answers.proofs.outcome_answer.Goals as goal
 
-pub overflow_cast-stop_number : goal.overflow_cast-stop_number
-overflow_cast-stop_number c = omega (arith, c.stop_number.ensures, stop_small c.in-Stopped.s)
+pub returns-in-Ok : goal.returns-in-Ok
+returns-in-Ok c = rw c.in-Ok.is c.event_answer.ensures
 
-pub returns-in-Made : goal.returns-in-Made
-returns-in-Made c = rw c.in-Made.is c.event_answer.ensures
-
-pub returns-in-Stopped : goal.returns-in-Stopped
-returns-in-Stopped c = rw (c.in-Stopped.is, ← c.stop_number.ensures) c.packed.ensures
-
-pub returns-in-Refused : goal.returns-in-Refused
-returns-in-Refused c = rw c.in-Refused.is c.refusal_answer.ensures
+pub returns-in-Err : goal.returns-in-Err
+returns-in-Err c = rw c.in-Err.is c.unmade_answer.ensures

@@ -1,5 +1,5 @@
 use native.Mathlib.Omega.{arith}
 use Rattle.answers.proofs.permit.Goals as goal
 
-pub returns-in-By : goal.returns-in-By
-returns-in-By c = (rw c.in-By.is, omega arith)
+pub returns-in-Some : goal.returns-in-Some
+returns-in-Some c = (rw c.in-Some.is, omega arith)
