@@ -51,11 +51,7 @@ fn condition(op: Jump, x: u32, y: u32) -> bool
     }
 }
 
-fn compare_and_jump(
-    registers: &mut Registers,
-    op: Jump,
-    i: Instruction,
-) -> How
+fn compare_and_jump(registers: &mut Registers, op: Jump, i: Instruction) -> How
     requires { (i.a < 16) × (i.b < 16) }
     ensures { ended result registers.new ≡ ended_of (compare_of op i registers.old) registers.old }
 {
@@ -81,11 +77,7 @@ fn execute_loop(registers: &mut Registers, i: Instruction) -> How
 }
 
 // J to LOOP. A jump that compares has no immediate for an operand: rule 3 refuses b = 16.
-pub fn execute_jump(
-    registers: &mut Registers,
-    op: Jump,
-    i: Instruction,
-) -> How
+pub fn execute_jump(registers: &mut Registers, op: Jump, i: Instruction) -> How
     requires { FieldsHold i × (jump_compares op ≡ true → i.b < 16) }
     ensures { ended result registers.new ≡ ended_of (jump_of op i registers.old) registers.old }
 {

@@ -16,29 +16,25 @@ use operations::Move;
 use registers::{PC, PSW, Registers, guarded, minus, plus, second};
 
 // An integer operation: D[c] and PSW.
-pub fn execute_integer(
-    registers: &mut Registers,
-    op: Integer,
-    i: Instruction,
-)
+pub fn execute_integer(registers: &mut Registers, op: Integer, i: Instruction)
     requires { FieldsHold i }
     ensures { registers.new ≡ integer_of op i registers.old }
 {
     let c = i.c;
     let x = i.a;
-    let r = compute(op, registers.d[x], second(&registers.d, i.b, i.imm), registers.core[PSW]);
+    let r = compute(
+        op,
+        registers.d[x],
+        second(&registers.d, i.b, i.imm),
+        registers.core[PSW],
+    );
     registers.d[c] = r.word;
     registers.core[PSW] = r.psw;
     registers.core[PC] = i.next;
 }
 
 // Writes address register c, which GW guards.
-fn write_address(
-    registers: &mut Registers,
-    c: usize,
-    value: u32,
-    next: u32,
-) -> How
+fn write_address(registers: &mut Registers, c: usize, value: u32, next: u32) -> How
     requires { c < 16 }
     ensures { ended result registers.new ≡ ended_of (address_write c value next registers.old) registers.old }
 {
@@ -51,11 +47,7 @@ fn write_address(
 }
 
 // MOV.A, MOV.D, MOV.AA, ADD.A, SUB.A.
-pub fn execute_move(
-    registers: &mut Registers,
-    op: Move,
-    i: Instruction,
-) -> How
+pub fn execute_move(registers: &mut Registers, op: Move, i: Instruction) -> How
     requires { FieldsHold i }
     ensures { ended result registers.new ≡ ended_of (move_of op i registers.old) registers.old }
 {
