@@ -8,7 +8,6 @@ use crate::alone::{step_alone, try_alone};
 use crate::lines::{put_end, put_header, put_line, put_long, put_refused, put_stop};
 use crate::start::{no_ranges, start_registers, start_window};
 use events::event::Event;
-use inputs::verdict::Refusal;
 use machine::answer::Unmade;
 use registers::{FCX, PC, PCXI, Registers};
 
@@ -31,11 +30,7 @@ const FULL: usize = 65_408;
 fn is_trap(e: Event) -> bool
     ensures { result ≡ is_trap e }
 {
-    match e {
-        Event::Instruction => false,
-        Event::Interrupt(_) => false,
-        Event::Trap(_) => true,
-    }
+    matches!(e, Event::Trap(_))
 }
 
 // The first block: the header, or all that an image of another kind prints.
@@ -49,39 +44,36 @@ pub fn begin(image: &[u8], out: &mut [u8; 65536]) -> Walk
     if 65_536 < image.len() {
         let long = put_long(out, 0);
         return Walk {
-            window: window,
-            registers: registers,
-            requests: requests,
+            window,
+            registers,
+            requests,
             made: 0,
             over: true,
             len: long,
         };
     }
-    match try_alone(
+    if let Err(x) = try_alone(
         &window,
         image,
         registers.core[PC],
         registers.core[FCX],
         registers.core[PCXI],
     ) {
-        Err(x) => {
-            let refused = put_refused(out, 0, x);
-            return Walk {
-                window: window,
-                registers: registers,
-                requests: requests,
-                made: 0,
-                over: true,
-                len: refused,
-            };
-        }
-        Ok(()) => {}
+        let refused = put_refused(out, 0, x);
+        return Walk {
+            window,
+            registers,
+            requests,
+            made: 0,
+            over: true,
+            len: refused,
+        };
     }
     let header = put_header(out, 0);
     Walk {
-        window: window,
-        registers: registers,
-        requests: requests,
+        window,
+        registers,
+        requests,
         made: 0,
         over: false,
         len: header,
@@ -104,10 +96,10 @@ pub fn go_on(image: &[u8], w: Walk, out: &mut [u8; 65536]) -> Walk
     while made < STEPS {
         if FULL < at {
             return Walk {
-                window: window,
-                registers: registers,
-                requests: requests,
-                made: made,
+                window,
+                registers,
+                requests,
+                made,
                 over: false,
                 len: at,
             };
@@ -116,8 +108,7 @@ pub fn go_on(image: &[u8], w: Walk, out: &mut [u8; 65536]) -> Walk
         let s = step_alone(&mut window, image, registers, requests, ranges);
         registers = s.registers;
         requests = s.requests;
-        let outcome = s.outcome;
-        match outcome {
+        match s.outcome {
             Ok(e) => {
                 at = put_line(
                     out,
@@ -132,10 +123,10 @@ pub fn go_on(image: &[u8], w: Walk, out: &mut [u8; 65536]) -> Walk
                 if is_trap(e) {
                     let trapped = put_end(out, at, made);
                     return Walk {
-                        window: window,
-                        registers: registers,
-                        requests: requests,
-                        made: made,
+                        window,
+                        registers,
+                        requests,
+                        made,
                         over: true,
                         len: trapped,
                     };
@@ -145,10 +136,10 @@ pub fn go_on(image: &[u8], w: Walk, out: &mut [u8; 65536]) -> Walk
                 let stopped = put_stop(out, at, x);
                 let last = put_end(out, stopped, made);
                 return Walk {
-                    window: window,
-                    registers: registers,
-                    requests: requests,
-                    made: made,
+                    window,
+                    registers,
+                    requests,
+                    made,
                     over: true,
                     len: last,
                 };
@@ -156,10 +147,10 @@ pub fn go_on(image: &[u8], w: Walk, out: &mut [u8; 65536]) -> Walk
             Err(Unmade::Refused(x)) => {
                 let refused = put_refused(out, at, x);
                 return Walk {
-                    window: window,
-                    registers: registers,
-                    requests: requests,
-                    made: made,
+                    window,
+                    registers,
+                    requests,
+                    made,
                     over: true,
                     len: refused,
                 };
@@ -168,10 +159,10 @@ pub fn go_on(image: &[u8], w: Walk, out: &mut [u8; 65536]) -> Walk
     }
     let end = put_end(out, at, made);
     Walk {
-        window: window,
-        registers: registers,
-        requests: requests,
-        made: made,
+        window,
+        registers,
+        requests,
+        made,
         over: true,
         len: end,
     }
