@@ -62,12 +62,9 @@ pub fn slot_of(bias: u32, entry: u32, shift: u32, pc: u32) -> usize
 fn shift_for(bytes: usize) -> u32
     ensures { result ≡ shift_of bytes }
 {
-    for shift in 1..31 {
-        if (bytes / 2) >> shift < 4080 {
-            return shift;
-        }
-    }
-    31
+    (1..31)
+        .find(|&shift| (bytes / 2) >> shift < 4080)
+        .unwrap_or(31)
 }
 
 // Of the records with one place the first is marked.
