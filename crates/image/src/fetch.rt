@@ -110,8 +110,7 @@ fn walk_body(image: &[u8], at: usize, from: u32, n: u32, pc: u32) -> Rest
     ensures { result ≡ body_walk n image.now at from pc }
 {
     let mut here = from;
-    let mut k: u32 = 0;
-    while k < n {
+    for k in 0..n {
         let byte = at + 8 * k as usize;
         if pc < here {
             return Rest { records: 0, at: 0 };
@@ -123,7 +122,6 @@ fn walk_body(image: &[u8], at: usize, from: u32, n: u32, pc: u32) -> Rest
             };
         }
         here += length_of(image[byte]);
-        k += 1;
     }
     Rest { records: 0, at: 0 }
 }
