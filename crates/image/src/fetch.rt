@@ -131,8 +131,7 @@ pub fn rest_long(image: &[u8], pc: u32) -> Rest
     requires { ImageHolds image.now × (long_only image.now ≡ true) }
     ensures { result ≡ rest_of image.now pc }
 {
-    let mut i: u32 = 0;
-    loop {
+    for i in 0..word_at(image, 0) {
         let e = read_entry(image, i as usize);
         let k = index_from(e.load, pc);
         if k < e.records {
@@ -141,11 +140,8 @@ pub fn rest_long(image: &[u8], pc: u32) -> Rest
                 at: e.offset as usize + 8 * k as usize,
             };
         }
-        i += 1;
-        if i == word_at(image, 0) {
-            return Rest { records: 0, at: 0 };
-        }
     }
+    Rest { records: 0, at: 0 }
 }
 
 // A record of a body to walk from: its index, and the address at which it begins.
@@ -202,19 +198,15 @@ pub fn rest_at(image: &[u8], marks: &[u64], shift: u32, pc: u32) -> InBody
     requires { ImageHolds image.now × MarksHold image.now marks.now }
     ensures { (result.rest ≡ rest_of image.now pc) × (result.entry ≡ entry_of image.now pc) }
 {
-    let mut i: u32 = 0;
-    loop {
+    for i in 0..word_at(image, 0) {
         let r = rest_in(image, marks, shift, i, pc);
         if r.records != 0 {
             return InBody { rest: r, entry: i };
         }
-        i += 1;
-        if i == word_at(image, 0) {
-            return InBody {
-                rest: Rest { records: 0, at: 0 },
-                entry: 0,
-            };
-        }
+    }
+    InBody {
+        rest: Rest { records: 0, at: 0 },
+        entry: 0,
     }
 }
 
