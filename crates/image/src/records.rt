@@ -69,12 +69,10 @@ fn scan_all(image: &[u8]) -> Scan
     let count = (image.len() - from) / 8;
     let mut hold = true;
     let mut long = true;
-    let mut k: usize = 0;
-    while k < count {
+    for k in 0..count {
         let w = word_at(image, from + 8 * k);
         hold = hold & word_holds(w);
         long = long & word_long(w);
-        k += 1;
     }
     Scan {
         hold: hold,
