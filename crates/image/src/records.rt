@@ -94,18 +94,17 @@ fn scan_each(image: &[u8]) -> ImageScan
 {
     let n = word_at(image, 0);
     let from = 4 + 12 * n as usize;
-    let mut at = from;
+    let count = (image.len() - from) / 8;
     let mut short: u32 = 0;
-    while at < image.len() {
-        let w = word_at(image, at);
+    for k in 0..count {
+        let w = word_at(image, from + 8 * k);
         if !word_fits(w) {
             return ImageScan {
-                check: ImageCheck::Record(((at - from) / 8) as u32),
+                check: ImageCheck::Record(k as u32),
                 long: false,
             };
         }
         short += w / 0x80 % 2;
-        at += 8;
     }
     ImageScan {
         check: ImageCheck::Holds,
