@@ -86,10 +86,6 @@ pub shift_first : (n shift bytes : ℕ) (r : Option ℕ) → option_map (λ x. x
 shift_first n shift bytes None e = ap (λ o. unwrap_or o (shift + n)) e ∙ shift_found n shift bytes
 shift_first n shift bytes (Some s) e = ap (λ o. unwrap_or o (shift + n)) e ∙ shift_found n shift bytes
 
--- a record of a body, by its index
-pub begins_there : (img : List ℕ) (i : ℕ) → i < entries_of img → (e : Entry) → e ≡ entry_at img i → (k a : ℕ) → k < e.records → a ≡ address_after k img e.offset e.load → Begins img a i k
-begins_there img i h e is k a l y = (h, rw is at l, rw is at y)
-
 -- ---- where a walk to pc starts, by the mark in its place s
 module _ (marks : List ℕ) (shift i : ℕ) (e : Entry) (pc s : ℕ) (is : s ≡ slot_of (bias_of e) (i + 1) shift pc) where
   pub start_marked : mark_entry (get_or marks s 0) ≡ i + 1 → mark_address (get_or marks s 0) ≤ pc → at_record (mark_index (get_or marks s 0)) (mark_address (get_or marks s 0)) ≡ marked_start marks shift i e pc

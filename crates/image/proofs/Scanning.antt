@@ -1,6 +1,6 @@
 -- The records are tried one by one, or several at a time.
 -- Assumes nothing.
-use Rattle.std.proofs.Common.{◌≡◌, ℕ, zero, suc, ◌+◌, ◌-◌, ◌*◌, ◌/◌, ◌%◌, ◌<◌, ◌≤◌, Bool, true, false, cond, not, ◌&&◌, eqb, List, length, get_or, sym, refl, ◌∙◌, arith, ne_eqb}
+use Rattle.std.proofs.Common.{◌≡◌, ℕ, zero, suc, ◌+◌, ◌-◌, ◌*◌, ◌/◌, ◌%◌, ◌<◌, ◌≤◌, Bool, true, false, cond, not, ◌&&◌, eqb, List, get_or, sym, refl, ◌∙◌, arith, ne_eqb}
 use native.Mathlib.Nat.{sub-zero}
 use mathlib.Core.Bool.{and_assoc}
 use borrow.Author.Tests.{not-false}
@@ -13,7 +13,7 @@ use Rattle.image.specs.Marks.{long_from, long_only}
 use Rattle.image.specs.declared.records.ImageCheck.{ImageCheck}
 use Rattle.image.specs.declared.records.ImageCheck.TheVariants.{Holds, Table, Record}
 use Rattle.image.proofs.Tests.{word_form, word_record, word_short}
-use Rattle.image.proofs.Images.{Sized, turn_on, turn_fault, turn_end}
+use Rattle.image.proofs.Images.{turn_on, turn_fault, turn_end}
 use Rattle.image.proofs.Long.{and_one, pass_first, pass_on, pass_end}
 
 -- ---- whether they all hold

@@ -1,5 +1,4 @@
 use Rattle.std.proofs.Common.{◌≡◌}
-use Rattle.image.specs.Table.{entry_at}
 use Rattle.image.specs.Rest.{record_address}
 use Rattle.image.specs.Marks.{body_marks, Marked}
 use Rattle.image.proofs.marks.mark_body.Given as goal

@@ -6,4 +6,4 @@ abbrev pub invariant-loop-i : goal.invariant-loop-i
 invariant-loop-i l = (l.start ≤ length l.image)
     × (l.last.offset + 8 * l.last.records ≤ length l.image)
     × (l.last.records ≤ 0x1_0000)
-    × (entries_from (l.fn.n - l.i) l.image l.i l.start (range_end l.image l.last) ≡ entries_from l.fn.n l.image 0 (4 + 12 * l.fn.n) 0)
+    × (entries_from (l.n - l.i) l.image l.i l.start (range_end l.image l.last) ≡ entries_from l.n l.image 0 (4 + 12 * l.n) 0)
