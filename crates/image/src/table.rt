@@ -36,22 +36,14 @@ pub fn read_entry(image: &[u8], i: usize) -> Entry
 }
 
 // Whether an entry's words hold: its body begins at `start`, in an image of that length.
+#[tactic(auto, unfolding(crate::specs::Table::entry_fits))]
 fn entry_fits(e: Entry, start: u64, len: u64) -> bool
     ensures { result ≡ entry_fits e start len }
 {
-    if e.load % 4 != 0 {
-        return false;
-    }
-    if e.records < 1 {
-        return false;
-    }
-    if 0x1_0000 < e.records {
-        return false;
-    }
-    if e.offset as u64 != start {
-        return false;
-    }
-    e.offset as u64 + 8 * e.records as u64 <= len
+    e.load % 4 == 0
+        && (1..=0x1_0000).contains(&e.records)
+        && e.offset as u64 == start
+        && e.offset as u64 + 8 * e.records as u64 <= len
 }
 
 // Whether the code range of an entry ends at an address or below it. It ends at the latest where it would if all records were long, and nearly always that tells.
@@ -59,10 +51,8 @@ fn ends_by(image: &[u8], e: Entry, limit: u64) -> bool
     requires { (e.offset + 8 * e.records ≤ length image.now) × (e.records ≤ 0x1_0000) }
     ensures { result ≡ nat_le (range_end image.now e) limit }
 {
-    if e.load as u64 + 4 * e.records as u64 <= limit {
-        return true;
-    }
-    address_after(image, e.offset as usize, e.load as u64, e.records) <= limit
+    e.load as u64 + 4 * e.records as u64 <= limit
+        || address_after(image, e.offset as usize, e.load as u64, e.records) <= limit
 }
 
 // The table of contents.
@@ -98,8 +88,7 @@ fn check_entries(image: &[u8], n: u32) -> Result<(), ImageFault>
         records: 0,
         offset: 0,
     };
-    let mut i: u32 = 0;
-    while i < n {
+    for i in 0..n {
         let e = read_entry(image, i as usize);
         if !entry_fits(e, start, len) {
             return Err(ImageFault::Table(i + 1));
@@ -112,7 +101,6 @@ fn check_entries(image: &[u8], n: u32) -> Result<(), ImageFault>
         }
         start += 8 * e.records as u64;
         last = e;
-        i += 1;
     }
     if start == len {
         return Ok(());

@@ -13,49 +13,34 @@ use crate::verdict::Refusal;
 use memory::address::Address;
 
 // Rule 1: where a window lies, and its length.
+#[tactic(auto, unfolding(crate::specs::Checks::window_holds))]
 fn window_holds(base: Address, len: usize) -> bool
     ensures { result ≡ window_holds base len }
 {
-    if base.0 % 64 != 0 {
-        return false;
-    }
-    if len % 64 != 0 {
-        return false;
-    }
-    if len < 1 {
-        return false;
-    }
-    if 0x1_0000 < len {
-        return false;
-    }
-    if 13 < base.0 / 0x1000_0000 {
-        return false;
-    }
-    (base.0 % 0x1000_0000) as usize + len <= 0x1000_0000
+    base.0 % 64 == 0
+        && len % 64 == 0
+        && (1..=0x1_0000).contains(&len)
+        && base.0 / 0x1000_0000 <= 13
+        && (base.0 % 0x1000_0000) as usize + len <= 0x1000_0000
 }
 
 // Rule 1 of the second window, which may have no bytes.
+#[tactic(auto, unfolding(crate::specs::Checks::second_holds))]
 fn second_holds(base: Address, len: usize) -> bool
     ensures { result ≡ second_holds base len }
 {
-    if len == 0 {
-        return true;
-    }
-    window_holds(base, len)
+    len == 0 || window_holds(base, len)
 }
 
 // Rule 13: the windows do not overlap.
+#[tactic(auto, unfolding(crate::specs::Checks::apart_holds))]
 fn apart_holds(base: Address, len: usize, base2: Address, len2: usize) -> bool
     requires { (len ≤ 65536) × (len2 ≤ 65536) }
     ensures { result ≡ apart_holds base len base2 len2 }
 {
-    if len2 == 0 {
-        return true;
-    }
-    if base.0 as usize + len <= base2.0 as usize {
-        return true;
-    }
-    base2.0 as usize + len2 <= base.0 as usize
+    len2 == 0
+        || base.0 as usize + len <= base2.0 as usize
+        || base2.0 as usize + len2 <= base.0 as usize
 }
 
 // Rule 1 on each window in turn, then rule 13.
