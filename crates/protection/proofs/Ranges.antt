@@ -1,6 +1,6 @@
 -- The ranges as words.
 -- Assumes nothing.
-use Prim.Native.Nat.{ℕ, zero, suc, ◌+◌, ◌*◌, ◌<◌}
+use Prim.Native.Nat.{ℕ, zero, suc, ◌+◌, ◌*◌, ◌≤◌, ◌<◌}
 use native.Mathlib.Omega.{arith}
 use native.Mathlib.Decide.{ℕ_discrete}
 use mathlib.Core.Path.{◌≡◌, sym, ap, ◌∙◌}
@@ -75,6 +75,6 @@ turn rs ws k g is h b j l = by (ℕ_discrete j k)
     by (yes e) = rw e (put_same ws k g h ∙ is)
     by (no n) = put_other ws k j g n ∙ b j (omega arith)
 
-pub end : (rs : List Range) (ws : List ℕ) → length rs ≡ 32 → Below rs ws 32 → ranges_in ws ≡ rs
+pub end : (rs : List Range) (ws : List ℕ) (k : ℕ) → length rs ≡ 32 → 32 ≤ k → Below rs ws k → ranges_in ws ≡ rs
 unfolding ranges_in
-end rs ws l b = ext_get_or no_range (ranges_in ws) rs (sym l) (λ i h. ranges_at ws i h ∙ b i h)
+end rs ws k l m b = ext_get_or no_range (ranges_in ws) rs (sym l) (λ i h. ranges_at ws i h ∙ b i (omega arith))

@@ -113,13 +113,10 @@ module _ (rs : List Range) (right : Right) (address : Address) where
 pub seen : (ws : List ℕ) (k : ℕ) (right : Right) (address : Address) (g : Range) (t u : Bool) → k < 32 → g ≡ range_at ws k → t ≡ permits g right address → t ≡ u → permits_at (ranges_in ws) k right address ≡ u
 seen ws k right address g t u h is e v = rw (ranges_at ws k h, ← is, ← e) v
 
--- range i of the set that permits, where none before it does
-pub found : (rs : List Range) (set : ℕ) (right : Right) (address : Address) (from i k : ℕ) → from ≡ first_of set right → i < 4 → k ≡ from + i → permits_at rs (from + i) right address ≡ true → ((j : ℕ) → j < i → permits_at rs (from + j) right address ≡ false) → LowestBy rs set right address k
-found rs set right address from i k f h e p n =
-    record {
-      one = record { from = omega arith; to = omega arith; permits_it = subst (λ (x : ℕ). permits_at rs x right address ≡ true) (sym e) p };
-      none_before = λ j l u. let z : from + (j - from) ≡ j = omega arith in subst (λ (x : ℕ). permits_at rs x right address ≡ false) z (n (j - from) (omega arith));
-    }
+-- a range of the set that permits, where none before it does
+pub found : (rs : List Range) (set : ℕ) (right : Right) (address : Address) (from k : ℕ) → from ≡ first_of set right → from ≤ k → k < from + 4 → permits_at rs k right address ≡ true → ((j : ℕ) → j < k → from ≤ j → permits_at rs j right address ≡ false) → LowestBy rs set right address k
+found rs set right address from k e a b p n =
+    record { one = record { from = omega arith; to = omega arith; permits_it = p }; none_before = λ j l u. n j u (omega arith) }
 
 -- a set's ranges are among the 32
 first_below : (set : ℕ) (right : Right) → set < 4 → first_of set right + 4 ≤ 32

@@ -33,13 +33,10 @@ pub fn flat(ranges: [Range; 32]) -> [u32; 96]
     ensures { ranges_in result ≡ ranges }
 {
     let mut words = [0; 96];
-    let mut k: usize = 0;
-    while k < 32 {
-        let g = ranges[k];
+    for (k, g) in ranges.iter().enumerate() {
         words[3 * k] = g.lower;
         words[3 * k + 1] = g.upper;
         words[3 * k + 2] = g.mode;
-        k += 1;
     }
     words
 }
@@ -97,18 +94,10 @@ pub fn search(words: &[u32; 96], set: usize, right: Right, address: Address) -> 
     ensures { (result ≡ lowest_of (ranges_in words.now) set right address) × Exactly (Lowest (ranges_in words.now) set right address) result }
 {
     let from = first(set, right);
-    let mut i: usize = 0;
-    let n = loop {
-        if i == 4 {
-            break 32;
+    for k in from..from + 4 {
+        if permitting(range_at(words, k), right, address) {
+            return Permit::By(k);
         }
-        if permitting(range_at(words, from + i), right, address) {
-            break from + i;
-        }
-        i += 1;
-    };
-    if n == 32 {
-        return Permit::Unnamed;
     }
-    Permit::By(n)
+    Permit::Unnamed
 }
