@@ -16,11 +16,8 @@ fn index_on(image: &[u8], long: bool, s: Span, k: u32, here: u32, pc: u32) -> u3
     let at = s.at;
     let mut a = here;
     for j in k..s.records {
-        if a == pc {
-            return j;
-        }
-        if pc < a {
-            break;
+        if pc <= a {
+            return if a == pc { j } else { s.records };
         }
         a += length_of(image[at + 8 * j as usize]);
     }
