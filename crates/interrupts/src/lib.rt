@@ -37,10 +37,8 @@ pub fn best_source(sources: &[u32; 16]) -> Best
         source: 16,
         level: 0,
     };
-    let mut i: u8 = 0;
-    while i < 16 {
+    for i in 0..16 {
         b = better(b, i, sources[i as usize]);
-        i += 1;
     }
     b
 }

@@ -71,10 +71,8 @@ pub fn read_words(s: &[u8], i: usize, words: &mut [u32], first: usize, n: usize)
     requires { (i + 4 * n ≤ length s.now) × (first + n ≤ length words.old) }
     ensures { words.new ≡ sets words.old first (words_at s.now i n) }
 {
-    let mut k: usize = 0;
-    while k < n {
+    for k in 0..n {
         words[first + k] = word_at(s, i + 4 * k);
-        k += 1;
     }
 }
 
@@ -83,9 +81,7 @@ pub fn put_words(s: &mut [u8], i: usize, words: &[u32], n: usize)
     requires { (i + 4 * n ≤ length s.old) × (n ≤ length words.now) }
     ensures { s.new ≡ put_words s.old i words.now n }
 {
-    let mut k: usize = 0;
-    while k < n {
+    for k in 0..n {
         put_word(s, i + 4 * k, words[k]);
-        k += 1;
     }
 }

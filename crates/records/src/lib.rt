@@ -2,7 +2,7 @@
 
 #![tactic(auto)]
 
-ghost use Rattle.std.specs.Prelude.{◌≡◌, ◌+◌, ◌≤◌, length};
+ghost use Rattle.std.specs.Prelude.{◌≡◌, ◌+◌, ◌*◌, ◌≤◌, length};
 ghost use Rattle.memory.specs.Word.{words_at, put_words};
 ghost use Rattle.records.specs.CoreRecord.{registers_in, requests_in, ranges_of, stored_in};
 
@@ -10,22 +10,13 @@ use memory::{put_words, read_words, word_at};
 use protection::range::Range;
 use registers::Registers;
 
-// The sixteen words from byte `at` on.
-fn sixteen(core: &[u8], at: usize) -> [u32; 16]
-    requires { at + 64 ≤ length core.now }
-    ensures { result ≡ words_at core.now at 16 }
+// The N words from byte `at` on.
+fn words_from<const N: usize>(core: &[u8], at: usize) -> [u32; N]
+    requires { at + 4 * N ≤ length core.now }
+    ensures { result ≡ words_at core.now at N }
 {
-    let mut words = [0; 16];
-    read_words(core, at, &mut words, 0, 16);
-    words
-}
-
-fn ten(core: &[u8], at: usize) -> [u32; 10]
-    requires { at + 40 ≤ length core.now }
-    ensures { result ≡ words_at core.now at 10 }
-{
-    let mut words = [0; 10];
-    read_words(core, at, &mut words, 0, 10);
+    let mut words = [0; N];
+    read_words(core, at, &mut words, 0, N);
     words
 }
 
@@ -34,9 +25,9 @@ pub fn read_registers(core: &[u8]) -> Registers
     ensures { result ≡ registers_in core.now }
 {
     Registers {
-        d: sixteen(core, 0),
-        a: sixteen(core, 64),
-        core: ten(core, 128),
+        d: words_from(core, 0),
+        a: words_from(core, 64),
+        core: words_from(core, 128),
     }
 }
 
@@ -44,7 +35,7 @@ pub fn read_requests(core: &[u8]) -> [u32; 16]
     requires { length core.now ≡ 616 }
     ensures { result ≡ requests_in core.now }
 {
-    sixteen(core, 168)
+    words_from(core, 168)
 }
 
 pub fn read_ranges(core: &[u8]) -> [Range; 32]
@@ -56,14 +47,12 @@ pub fn read_ranges(core: &[u8]) -> [Range; 32]
         upper: 0,
         mode: 0,
     }; 32];
-    let mut k: usize = 0;
-    while k < 32 {
-        ranges[k] = Range {
+    for (k, range) in ranges.iter_mut().enumerate() {
+        *range = Range {
             lower: word_at(core, 232 + 12 * k),
             upper: word_at(core, 236 + 12 * k),
             mode: word_at(core, 240 + 12 * k),
         };
-        k += 1;
     }
     ranges
 }

@@ -419,8 +419,8 @@ module _ (img : List ℕ) (s : Span) where
     pub here_below : (j a : ℕ) → Here j a → a ≤ 0xE000_0000
     here_below j a h = omega (arith, h.at, y.below, after_less j s.records img s.at s.from h.within)
 
-    pub here_up : (j a x : ℕ) → Here j a → (j ≡ s.records → ⊥) → x ≡ length_of (get_or img (s.at + 8 * j) 0) → Here (j + 1) (a + x)
-    here_up j a x h n e = record { within = (let w = h.within in omega (arith, n)); at = omega (arith, h.at, after_plus j img s.at s.from) }
+    pub here_up : (j a x : ℕ) → Here j a → j < s.records → x ≡ length_of (get_or img (s.at + 8 * j) 0) → Here (j + 1) (a + x)
+    here_up j a x h l e = record { within = omega arith; at = omega (arith, h.at, after_plus j img s.at s.from) }
 
     -- the record after another, and one by its index, as a byte of the image
     place_next : (at next pc : ℕ) → EndsAt img s at next → pc ≡ next → PlaceIn img s pc (at + 8)

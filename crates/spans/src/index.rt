@@ -14,17 +14,12 @@ fn index_on(image: &[u8], long: bool, s: Span, k: u32, here: u32, pc: u32) -> u3
     ensures { (result ≡ index_on image.now s k pc) × IndexTells image.now s k pc result }
 {
     let at = s.at;
-    let mut j = k;
     let mut a = here;
-    while a < pc {
-        if j == s.records {
-            return s.records;
+    for j in k..s.records {
+        if pc <= a {
+            return if a == pc { j } else { s.records };
         }
         a += length_of(image[at + 8 * j as usize]);
-        j += 1;
-    }
-    if a == pc {
-        return j;
     }
     s.records
 }

@@ -1,12 +1,13 @@
 -- Texts written into a buffer, one after the other.
 -- Assumes nothing.
-use Prim.Native.Nat.{ℕ, suc, ◌+◌, ◌≤◌, ◌<◌}
+use Prim.Native.Nat.{ℕ, suc, ◌+◌, ◌≤◌}
 use native.Mathlib.Omega.{arith}
 use native.Mathlib.Nat.{add-zero}
 use mathlib.Core.Path.{◌≡◌, refl, sym, ap, ◌∙◌}
-use mathlib.Core.List.{List, [], ◌∷◌, ◌++◌}
-use lib.ListN.{length, take, drop, get_or, set, length-set, length-append}
-use lib.Seq.{take-suc, take_all, take_at, length-take-le, sets, sets-eq}
+use mathlib.Core.List.{List, [], ◌∷◌, ◌++◌, append_assoc}
+use lib.ListN.{length, take, drop, set, length-append}
+use lib.Seq.{take_at, drop-drop, sets, sets-eq, length-sets}
+use borrow.Rule.Slice.PartMut.{put_mid}
 use Rattle.text.specs.Hex.{hex_of}
 use Rattle.walk.specs.Written.{Written}
 
@@ -15,35 +16,12 @@ pub sets_append : (x y a : List ℕ) (i : ℕ) → sets (sets a i x) (i + length
 sets_append [] y a i = rw add-zero
 sets_append (v ∷ x) y a i = let e : i + suc (length x) ≡ suc i + length x = omega arith in rw e (sets_append x y (set a i v) (suc i))
 
--- ---- a text copied byte by byte
-pub record Copied (out₀ : List ℕ) (at : ℕ) (s : List ℕ) (out : List ℕ) (i : ℕ) : Type 0 where
-  pub upto : i ≤ length s
-  pub size : length out ≡ length out₀
-  pub bytes : out ≡ sets out₀ at (take i s)
-
-pub copied_none : (out : List ℕ) (at : ℕ) (s : List ℕ) → Copied out at s out 0
-copied_none out at s = record { upto = omega arith; size = refl; bytes = refl }
-
-pub copied_more : (out₀ : List ℕ) (at : ℕ) (s out : List ℕ) (i : ℕ) → i < length s → Copied out₀ at s out i → Copied out₀ at s (set out (at + i) (get_or s i 0)) (i + 1)
-copied_more out₀ at s out i l k =
-    let f : i + 1 ≡ suc i = omega arith in
-    let n : length (take i s) ≡ i = length-take-le i s (omega arith) in
-    let b = sets_append (take i s) (get_or s i 0 ∷ []) out₀ at in
-    record {
-      upto = omega arith;
-      size = length-set out (at + i) (get_or s i 0) ∙ k.size;
-      bytes = rw (f, take-suc s i 0 l, k.bytes) (ap (λ (j : ℕ). set (sets out₀ at (take i s)) (at + j) (get_or s i 0)) (sym n) ∙ b);
-    }
-
-pub copied_all : (out₀ : List ℕ) (at : ℕ) (s out : List ℕ) (i : ℕ) → at + length s ≤ length out₀ → length s ≤ i → Copied out₀ at s out i → Written out₀ at s (length s) out (at + i)
-copied_all out₀ at s out i g h k =
-    record {
-      bytes = k.bytes ∙ ap (λ (t : List ℕ). sets out₀ at t) (take_all i s h);
-      ends = omega (arith, k.upto);
-      size = k.size;
-      room = omega (arith, k.upto);
-      fits = omega (arith, g, k.size, k.upto);
-    }
+-- a text copied into its part of the buffer
+pub copied : (out s : List ℕ) (at n : ℕ) → n ≡ length s → at + length s ≤ length out → Written out at s (length s) (put_mid at n out s) (at + length s)
+copied out s at n e h =
+    let b : put_mid at n out s ≡ sets out at s = rw (drop-drop n at out, e) (sym (sets-eq s out at h ∙ append_assoc (take at out) s _)) in
+    let l : length (put_mid at n out s) ≡ length out = ap length b ∙ length-sets out at s in
+    record { bytes = b; ends = refl; size = l; room = omega arith; fits = omega arith }
 
 -- ---- a text written after another
 pub then : {a b c x y : List ℕ} {i j k m n : ℕ} → Written a i x m b j → Written b j y n c k → Written a i (x ++ y) (m + n) c k

@@ -43,10 +43,8 @@ pub fn start_window() -> [u8; 4096]
     ensures { result ≡ start_bytes }
 {
     let mut bytes = [0; 4096];
-    let mut k: usize = 0;
-    while k < 64 {
+    for k in 0..64 {
         put_word(&mut bytes, 64 * k, link_after(k));
-        k += 1;
     }
     bytes
 }

@@ -3,4 +3,4 @@ use Rattle.records.proofs.read_requests.Goals as goal
 
 pub returns : goal.returns
 unfolding requests_in
-returns c = c.sixteen.ensures
+returns c = c.words_from.ensures

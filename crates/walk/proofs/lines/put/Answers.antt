@@ -1,14 +1,6 @@
-use Rattle.walk.proofs.Texts.{copied_none, copied_more, copied_all}
+use native.Mathlib.Omega.{arith}
+use Rattle.walk.proofs.Texts.{copied}
 use Rattle.walk.proofs.lines.put.Goals as goal
 
-pub loop-i-preserved : goal.loop-i-preserved
-loop-i-preserved c = copied_more _ _ _ _ _ c.loop-i-test.true c.loop-i.invariant
-
 pub returns : goal.returns
-returns c = copied_all _ _ _ _ _ c.requires c.loop-i-test.false c.loop-i.invariant
-
-pub loop-i-init : goal.loop-i-init
-loop-i-init c = copied_none _ _ _
-
-pub shape_of-out : goal.shape_of-out
-shape_of-out c = c.loop-i.invariant.size
+returns c = rw c.copy_from_slice.ensures.after (copied _ _ _ _ (omega arith) c.requires)

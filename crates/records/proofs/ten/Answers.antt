@@ -1,6 +1,0 @@
-use mathlib.Core.Path.{refl, ◌∙◌}
-use Rattle.memory.proofs.Words.{read_whole}
-use Rattle.records.proofs.ten.Goals as goal
-
-pub returns : goal.returns
-returns c = c.read_words.ensures ∙ read_whole _ _ 10 _ refl
