@@ -4,18 +4,12 @@ ghost use Rattle.std.specs.Prelude.{◌≡◌, ◌++◌, length, ◌<◌};
 ghost use Rattle.memory.specs.Memory.{windows};
 ghost use Rattle.accesses.specs.Reach.{data_address, aligned_reach, reach_of};
 
-use areas::link::{Place, place_at};
+use areas::link::place_at;
 use events::trap::{ALN, DATA, GRWP, Trap};
 use memory::address::{Address, as_address};
-use protection::access::{Check, check_access};
-use protection::range::Right;
+use protection::access::check_access;
+use protection::range::{Range, Right};
 use registers::{CORE, plus};
-
-#[derive(Clone, Copy)]
-pub enum Reach {
-    At(usize),
-    Traps(Trap),
-}
 
 // The address of a load's or a store's data: A[a] plus immediate, modulo 2^32.
 pub fn data_address(register: u32, imm: u32) -> Address
@@ -25,6 +19,7 @@ pub fn data_address(register: u32, imm: u32) -> Address
 }
 
 // Of an access that protection permits.
+#[tactic(auto, unfolding(crate::specs::Reach::aligned_reach))]
 fn reach_aligned(
     base: Address,
     window: &[u8],
@@ -44,13 +39,11 @@ fn reach_aligned(
     if address.0 % alignment != 0 {
         return Err(ALN);
     }
-    match place_at(base, window, base2, window2, size, address) {
-        None => Err(DATA),
-        Some(at) => Ok(at),
-    }
+    place_at(base, window, base2, window2, size, address).ok_or(DATA)
 }
 
 // An access of some bytes to an address, in one of the two windows. `guarded` says that GW forbids the register that it writes.
+#[tactic(auto, unfolding(crate::specs::Reach::reach_of))]
 pub fn reach_data(
     base: Address,
     window: &[u8],
@@ -67,10 +60,8 @@ pub fn reach_data(
     requires { 0 < alignment }
     ensures { result ≡ reach_of (windows base (length window.now) base2) (length (window.now ++ window2.now)) core.now ranges.now right guarded size alignment address }
 {
-    match check_access(core, ranges, right, address) {
-        Err(t) => Err(t),
-        Ok(()) => reach_aligned(
-            base, window, base2, window2, guarded, size, alignment, address,
-        ),
-    }
+    check_access(core, ranges, right, address)?;
+    reach_aligned(
+        base, window, base2, window2, guarded, size, alignment, address,
+    )
 }
