@@ -4,9 +4,9 @@ ghost use Rattle.std.specs.Prelude.{◌≡◌, ◌++◌, ◌<◌, length, false}
 ghost use Rattle.memory.specs.Memory.{windows, lent};
 ghost use Rattle.image.specs.Fetch.{FieldsHold};
 ghost use Rattle.protection.specs.declared.range.Right.TheVariants.{Write};
-ghost use Rattle.acts.specs.Acts.{did, perform_of};
+ghost use Rattle.acts.specs.Acts.{did, ended, ended_of, perform_of};
 ghost use Rattle.accesses.specs.Reach.{reach_of};
-ghost use Rattle.accesses.specs.Store.{reached, written_by, store_of};
+ghost use Rattle.accesses.specs.Store.{reached, written_by, end_by, store_of};
 
 use crate::reach::{data_address, reach_data};
 use acts::How;
@@ -55,6 +55,19 @@ fn write<W: Width>(
     Ok(())
 }
 
+// Ends a store: with the trap, or at the next PC.
+fn end_store(written: Result<(), Trap>, registers: &mut Registers, next: u32) -> How
+    ensures { ended result registers.new ≡ ended_of (end_by next registers.old written) registers.old }
+{
+    match written {
+        Err(t) => How::Trap(t),
+        Ok(()) => {
+            registers.core[PC] = next;
+            How::Done
+        }
+    }
+}
+
 // A store. Each operation has an arm of its own, with its width and alignment as constants.
 pub fn execute_store(
     base: Address,
@@ -81,11 +94,5 @@ pub fn execute_store(
         Store::StW => write::<u32>(base, window, base2, window2, core, ranges, 2, target, d),
         Store::StA => write::<u32>(base, window, base2, window2, core, ranges, 4, target, a),
     };
-    match written {
-        Err(t) => How::Trap(t),
-        Ok(()) => {
-            registers.core[PC] = i.next;
-            How::Done
-        }
-    }
+    end_store(written, registers, i.next)
 }

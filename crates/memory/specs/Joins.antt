@@ -50,7 +50,7 @@ second_set s t k v = sym (set_append_add s t k v)
 module _ (s t : List ℕ) (i w : ℕ) where
   pub first_put_byte : i + 1 ≤ length s → put_byte s i w ++ t ≡ put_byte (s ++ t) i w
   unfolding put_byte
-  first_put_byte h = first_set s t i (w % 0x100) (omega arith)
+  first_put_byte h = first_set s t i _ (omega arith)
 
   pub first_put_half : i + 2 ≤ length s → put_half s i w ++ t ≡ put_half (s ++ t) i w
   unfolding put_half
@@ -78,7 +78,7 @@ module _ (s t : List ℕ) (i w : ℕ) where
 module _ (s t : List ℕ) (k w : ℕ) where
   pub add_byte : s ++ put_byte t k w ≡ put_byte (s ++ t) (length s + k) w
   unfolding put_byte
-  add_byte = second_set s t k (w % 0x100)
+  add_byte = second_set s t k _
 
   pub add_half : s ++ put_half t k w ≡ put_half (s ++ t) (length s + k) w
   unfolding put_half

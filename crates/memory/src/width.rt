@@ -49,7 +49,7 @@ impl Width for u8 {
     const SIZE: u8 = 1;
 
     fn read(s: &[u8], i: usize) -> u32 {
-        wide(s[i])
+        s[i] as u32
     }
 
     #[tactic(auto, unfolding(crate::specs::Word::put_byte))]
