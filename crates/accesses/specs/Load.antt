@@ -61,6 +61,16 @@ read_of LdHu bytes at = half_at bytes at
 read_of LdW bytes at = word_at bytes at
 read_of LdA bytes at = word_at bytes at
 
+-- what an access reads where it reaches
+abbrev pub read_by : (List ℕ → ℕ → ℕ) → List ℕ → Result ℕ Trap → Result ℕ Trap
+read_by read bytes (Err t) = Err t
+read_by read bytes (Ok at) = Ok (read bytes at)
+
+-- a register with what was read, and the next PC
+abbrev pub set_by : (ℕ → Registers → Registers) → ℕ → Registers → Result ℕ Trap → Effect
+set_by put next r (Err t) = acts.Traps t
+set_by put next r (Ok v) = Sets (with_pc next (put v r))
+
 -- it goes to D[c], LD.A's to A[c]
 abbrev pub put_of : Load → ℕ → ℕ → Registers → Registers
 put_of op c v r = cond (loads_address op) (with_a c v r) (with_d c v r)

@@ -1,5 +1,5 @@
 -- Stores (002, 8.7 and chapter 9).
-use Rattle.std.specs.Prelude.{ℕ, false, List, length, get_or, Err, Ok, Result}
+use Rattle.std.specs.Prelude.{ℕ, false, List, length, get_or, Err, Ok, Result, ⊤}
 use Rattle.memory.specs.Memory.{Memory}
 use Rattle.operations.specs.declared.Store.{Store}
 use Rattle.operations.specs.declared.Store.TheVariants.{StB, StH, StW, StA}
@@ -9,7 +9,7 @@ use Rattle.registers.specs.declared.Registers.{Registers}
 use Rattle.protection.specs.declared.range.Range.{Range}
 use Rattle.protection.specs.declared.range.Right.TheVariants as right
 use Rattle.acts.specs.Acts as acts
-use Rattle.acts.specs.Acts.{Act, Ends, Write}
+use Rattle.acts.specs.Acts.{Act, Effect, Ends, Sets, Write}
 use Rattle.accesses.specs.Reach.{reach_of}
 use Rattle.accesses.specs.Load.{address_in}
 use Rattle.events.specs.declared.trap.Trap.{Trap}
@@ -33,6 +33,21 @@ value_of StB c d a = get_or d c 0
 value_of StH c d a = get_or d c 0
 value_of StW c d a = get_or d c 0
 value_of StA c d a = get_or a c 0
+
+-- whether an access reaches
+abbrev pub reached : Result ℕ Trap → Result ⊤ Trap
+reached (Err t) = Err t
+reached (Ok at) = Ok tt
+
+-- the bytes after it
+abbrev pub written_by : (List ℕ → ℕ → ℕ → List ℕ) → ℕ → List ℕ → Result ℕ Trap → List ℕ
+written_by put v bytes (Err t) = bytes
+written_by put v bytes (Ok at) = put bytes at v
+
+-- the next PC where it does
+abbrev pub end_by : ℕ → Registers → Result ⊤ Trap → Effect
+end_by next r (Err t) = acts.Traps t
+end_by next r (Ok _) = Sets (with_pc next r)
 
 abbrev pub store_by : Store → Instruction → Registers → Result ℕ Trap → Act
 store_by op i r (Err t) = Ends (acts.Traps t)

@@ -19,6 +19,7 @@ pub fn data_address(register: u32, imm: u32) -> Address
 }
 
 // Of an access that protection permits.
+#[tactic(auto, unfolding(crate::specs::Reach::aligned_reach))]
 fn reach_aligned(
     base: Address,
     window: &[u8],
@@ -38,13 +39,11 @@ fn reach_aligned(
     if address.0 % alignment != 0 {
         return Err(ALN);
     }
-    match place_at(base, window, base2, window2, size, address) {
-        None => Err(DATA),
-        Some(at) => Ok(at),
-    }
+    place_at(base, window, base2, window2, size, address).ok_or(DATA)
 }
 
 // An access of some bytes to an address, in one of the two windows. `guarded` says that GW forbids the register that it writes.
+#[tactic(auto, unfolding(crate::specs::Reach::reach_of))]
 pub fn reach_data(
     base: Address,
     window: &[u8],

@@ -1,4 +1,3 @@
 -- Laws of areas.
 pub mod Places
 pub mod Parts
-pub mod Accesses

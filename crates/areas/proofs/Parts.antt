@@ -10,7 +10,8 @@ use lib.Seq.{get_or-take, get_or-drop, set-append_left, length-take-le, take-app
 use borrow.Rule.Slice.PartMut.{mid_of, post_of, put_mid, put_same}
 use Rattle.memory.specs.Word.{word_at, put_word, put_words}
 use Rattle.memory.proofs.Words.{put_words_length}
-use Rattle.memory.proofs.Joined.{set_append_add, first_put_word, add_word, first_put_words, add_words}
+use Rattle.memory.specs.Joins.{set_append_add, first_put_word, add_word}
+use Rattle.memory.proofs.Joined.{first_put_words, add_words}
 use Rattle.memory.specs.Memory.{Memory, lent}
 use Rattle.memory.specs.declared.address.Address.{Address}
 use Rattle.areas.specs.Link.{area_address}

@@ -3,33 +3,19 @@
 #![tactic(auto)]
 
 pub mod address;
+pub mod width;
 
 ghost use Rattle.std.specs.Prelude.{◌≡◌, ◌+◌, ◌*◌, ◌≤◌, ◌<◌, length, get_or};
 ghost use Rattle.std.proofs.lemmas.List.Edits.{sets};
-ghost use Rattle.memory.specs.Word.{half_at, word_at, words_at, put_byte, put_half, put_word, put_words};
+ghost use Rattle.memory.specs.Word.{word_at, words_at, put_word, put_words};
 
 // The word at byte i.
+#[tactic(auto, unfolding(crate::specs::Word::word_at))]
 pub fn word_at(s: &[u8], i: usize) -> u32
     requires { i + 4 ≤ length s.now }
     ensures { result ≡ word_at s.now i }
 {
     wide(s[i]) + 0x100 * wide(s[i + 1]) + 0x1_0000 * wide(s[i + 2]) + 0x100_0000 * wide(s[i + 3])
-}
-
-// The halfword at byte i.
-pub fn half_at(s: &[u8], i: usize) -> u32
-    requires { i + 2 ≤ length s.now }
-    ensures { (result ≡ half_at s.now i) × (result < 0x1_0000) }
-{
-    wide(s[i]) + 0x100 * wide(s[i + 1])
-}
-
-// The byte at i.
-pub fn byte_at(s: &[u8], i: usize) -> u32
-    requires { i + 1 ≤ length s.now }
-    ensures { (result ≡ get_or s.now i 0) × (result < 0x100) }
-{
-    wide(s[i])
 }
 
 fn wide(b: u8) -> u32
@@ -38,24 +24,8 @@ fn wide(b: u8) -> u32
     b as u32
 }
 
-// Writes the low byte of w at i.
-pub fn put_byte(s: &mut [u8], i: usize, w: u32)
-    requires { i + 1 ≤ length s.old }
-    ensures { s.new ≡ put_byte s.old i w }
-{
-    s[i] = (w % 0x100) as u8;
-}
-
-// Writes the low halfword of w at byte i.
-pub fn put_half(s: &mut [u8], i: usize, w: u32)
-    requires { i + 2 ≤ length s.old }
-    ensures { s.new ≡ put_half s.old i w }
-{
-    s[i] = (w % 0x100) as u8;
-    s[i + 1] = (w / 0x100 % 0x100) as u8;
-}
-
 // Writes the word w at byte i.
+#[tactic(auto, unfolding(crate::specs::Word::put_word))]
 pub fn put_word(s: &mut [u8], i: usize, w: u32)
     requires { i + 4 ≤ length s.old }
     ensures { s.new ≡ put_word s.old i w }
