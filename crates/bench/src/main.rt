@@ -44,13 +44,20 @@ fn link_values(rt: &impl Print) -> io::Result<()> {
 // A range from D0000100 to D0000200 that may be read, the first one of set 0.
 fn range_values(rt: &impl Print) -> io::Result<()> {
     text(rt, b"range D0000100 to D0000200: read\n")?;
-    let mut words = [0; 96];
-    words[0] = 0xD000_0100;
-    words[1] = 0xD000_0200;
-    words[2] = 0x40;
-    let inside = search(&words, 0, Right::Read, Address(0xD000_01FF));
+    let none = Range {
+        lower: 0,
+        upper: 0,
+        mode: 0,
+    };
+    let mut ranges = [none; 32];
+    ranges[0] = Range {
+        lower: 0xD000_0100,
+        upper: 0xD000_0200,
+        mode: 0x40,
+    };
+    let inside = search(&ranges, 0, Right::Read, Address(0xD000_01FF));
     range_row(rt, 0xD000_01FF, inside)?;
-    let outside = search(&words, 0, Right::Read, Address(0xD000_0200));
+    let outside = search(&ranges, 0, Right::Read, Address(0xD000_0200));
     range_row(rt, 0xD000_0200, outside)
 }
 

@@ -10,20 +10,17 @@ use borrow.Author.Tests.{lt-ltb, le-ltb}
 use Rattle.registers.specs.Registers.{pc, fcx, pcxi}
 use Rattle.registers.specs.declared.Registers.{Registers}
 use Rattle.events.specs.declared.event.Event.{Event}
-use Rattle.events.specs.declared.event.Stop.{Stop}
 use Rattle.protection.specs.declared.range.Range.{Range}
-use Rattle.inputs.specs.declared.verdict.Refusal.{Refusal}
 use Rattle.permits.specs.declared.Permits.{Permits}
 use Rattle.machine.specs.Step.{StepOf, stepped, step_of}
 use Rattle.walk.specs.Start.{window_of, no_ranges}
-use Rattle.walk.specs.Text.{line_of, stop_of, end_of, refused_of}
+use Rattle.walk.specs.Text.{line_of, end_of}
 use Rattle.walk.specs.Written.{Written}
-use Rattle.walk.specs.Walk.{all_steps, is_trap, is_last, step_from, printed}
+use Rattle.walk.specs.Walk.{all_steps, is_trap, is_last, step_from, unmade_of, printed}
 use Rattle.walk.specs.Blocks.{Block, block, full, made_by, block_from}
 use Rattle.walk.proofs.Texts.{then, roomier}
 use Rattle.std.specs.Prelude.{Err, Ok, Result}
 use Rattle.machine.specs.declared.answer.Unmade.{Unmade}
-use Rattle.machine.specs.declared.answer.Unmade.TheVariants.{Refused, Stopped}
 
 -- ---- a block by its next step
 abbrev pub after : List ℕ → ℕ → Registers → List ℕ → StepOf → Block
@@ -104,8 +101,5 @@ module _ (img : List ℕ) (made₀ : ℕ) (r₀ : Registers) (xs₀ w₀ out₀ 
         pub trapped : {out' out'' : List ℕ} {most last at' at'' : ℕ} → Written out at line most out' at' → is_trap v ≡ true → Written out' at' (end_of (made + 1)) last out'' at'' → Done out'' (made + 1) true r' xs' w' at''
         trapped k f z = record { text = t.text ++ (line ++ end_of (made + 1)); most = _; wrote = then t.wrote (then k z); is = next ∙ rw (made-it, f) }
 
-      pub stopped : {x : Stop} {out' out'' : List ℕ} {most last at' at'' : ℕ} → o ≡ Err (Stopped x) → Written out at (stop_of x) most out' at' → Written out' at' (end_of made) last out'' at'' → Done out'' made true r' xs' w' at''
-      stopped {x} e k z = record { text = t.text ++ (stop_of x ++ end_of made); most = _; wrote = then t.wrote (then k z); is = next ∙ rw e }
-
-      pub refused : {x : Refusal} {out' : List ℕ} {most at' : ℕ} → o ≡ Err (Refused x) → Written out at (refused_of x) most out' at' → Done out' made true r' xs' w' at'
-      refused {x} e k = record { text = t.text ++ refused_of x; most = _; wrote = then t.wrote k; is = next ∙ rw e }
+      pub unmade : {u : Unmade} {out' : List ℕ} {most at' : ℕ} → o ≡ Err u → Written out at (unmade_of made u) most out' at' → Done out' made true r' xs' w' at'
+      unmade {u} e k = record { text = t.text ++ unmade_of made u; most = _; wrote = then t.wrote k; is = next ∙ rw e }

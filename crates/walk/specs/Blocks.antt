@@ -10,7 +10,6 @@ use Rattle.walk.specs.declared.blocks.Walk.{Walk}
 use Rattle.inputs.specs.declared.verdict.Refusal.{Refusal}
 use Rattle.events.specs.declared.event.Event.{Event}
 use Rattle.machine.specs.declared.answer.Unmade.{Unmade}
-use Rattle.machine.specs.declared.answer.Unmade.TheVariants.{Refused, Stopped}
 
 -- a block: where the walk stands after it, and its text
 pub record Block : Type 0 where
@@ -52,8 +51,7 @@ full = 65408
 -- a stop and a refusal are no step made
 abbrev pub made_by : Result Event Unmade → ℕ → ℕ
 made_by (Ok e) made = made + 1
-made_by (Err (Stopped x)) made = made
-made_by (Err (Refused x)) made = made
+made_by (Err u) made = made
 
 -- the block with `text` in it so far, after `made` steps and with at most n more
 unfoldable pub block_from : ℕ → List ℕ → ℕ → Registers → List ℕ → List ℕ → List ℕ → Block

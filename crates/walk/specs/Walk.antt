@@ -28,18 +28,21 @@ is_trap (Trap t) = true
 -- and with a stop or a refusal
 abbrev pub is_last : Result Event Unmade → Bool
 is_last (Ok e) = is_trap e
-is_last (Err (Stopped x)) = true
-is_last (Err (Refused x)) = true
+is_last (Err u) = true
 
 -- the step that registers r, requests xs and the window's bytes w make
 abbrev pub step_from : List ℕ → Registers → List ℕ → List ℕ → StepOf
 step_from img r xs w = step_of img r xs no_ranges (window_of w)
 
+-- what a step that is not made prints, after `made` steps
+abbrev pub unmade_of : ℕ → Unmade → List ℕ
+unmade_of made (Stopped x) = stop_of x ++ end_of made
+unmade_of made (Refused x) = refused_of x
+
 -- what a step with that outcome prints, from PC `at` on and `made` steps before it
 abbrev pub printed : Result Event Unmade → ℕ → ℕ → Registers → List ℕ
 printed (Ok e) made at r = line_of e at (pc r) (fcx r) (pcxi r) ++ cond (is_trap e) (end_of (made + 1)) []
-printed (Err (Stopped x)) made at r = stop_of x ++ end_of made
-printed (Err (Refused x)) made at r = refused_of x
+printed (Err u) made at r = unmade_of made u
 
 -- what at most n steps more print, after `made`
 unfoldable pub walk_from : ℕ → List ℕ → ℕ → Registers → List ℕ → List ℕ → List ℕ

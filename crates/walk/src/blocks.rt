@@ -5,10 +5,9 @@ ghost use Rattle.walk.specs.Walk.{is_trap, walk_of};
 ghost use Rattle.walk.specs.Blocks.{left, placed, begin_of, go_on_of, remaining, Part, Onward};
 
 use crate::alone::{step_alone, try_alone};
-use crate::lines::{put_end, put_header, put_line, put_long, put_refused, put_stop};
+use crate::lines::{put_end, put_header, put_line, put_long, put_refused, put_unmade};
 use crate::start::{no_ranges, start_registers, start_window};
 use events::event::Event;
-use machine::answer::Unmade;
 use registers::{FCX, PC, PCXI, Registers};
 
 // Where a walk stands after a block of len bytes.
@@ -132,9 +131,8 @@ pub fn go_on(image: &[u8], w: Walk, out: &mut [u8; 65536]) -> Walk
                     };
                 }
             }
-            Err(Unmade::Stopped(x)) => {
-                let stopped = put_stop(out, at, x);
-                let last = put_end(out, stopped, made);
+            Err(u) => {
+                let last = put_unmade(out, at, u, made);
                 return Walk {
                     window,
                     registers,
@@ -142,17 +140,6 @@ pub fn go_on(image: &[u8], w: Walk, out: &mut [u8; 65536]) -> Walk
                     made,
                     over: true,
                     len: last,
-                };
-            }
-            Err(Unmade::Refused(x)) => {
-                let refused = put_refused(out, at, x);
-                return Walk {
-                    window,
-                    registers,
-                    requests,
-                    made,
-                    over: true,
-                    len: refused,
                 };
             }
         }

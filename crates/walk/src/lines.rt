@@ -2,10 +2,12 @@
 
 ghost use Rattle.std.specs.Prelude.{◌+◌, ◌%◌, ◌≤◌, ◌<◌, ◌≡◌, length};
 ghost use Rattle.walk.specs.Text.{header_text, name_of, field_of, line_of, digit_of, decimal_of, stop_of, end_of, refused_of, long_text};
+ghost use Rattle.walk.specs.Walk.{unmade_of};
 ghost use Rattle.walk.specs.Written.{Written};
 
 use events::event::{Event, Stop, stop_number};
 use inputs::verdict::{Refusal, fault, number};
+use machine::answer::Unmade;
 use text::hex;
 
 // A text as it stands.
@@ -95,7 +97,7 @@ fn put_decimal(out: &mut [u8], at: usize, n: u32) -> usize
     put(out, i, &[digit(n)])
 }
 
-pub fn put_stop(out: &mut [u8], at: usize, s: Stop) -> usize
+fn put_stop(out: &mut [u8], at: usize, s: Stop) -> usize
     requires { at + 16 ≤ length out.old }
     ensures { Written out.old at (stop_of s) 16 out.new result }
 {
@@ -122,6 +124,20 @@ pub fn put_refused(out: &mut [u8], at: usize, x: Refusal) -> usize
     let space = put(out, next, b" ");
     let last = put_decimal(out, space, fault(x));
     put(out, last, b"\n")
+}
+
+// What a step that is not made prints.
+pub fn put_unmade(out: &mut [u8], at: usize, u: Unmade, made: u32) -> usize
+    requires { at + 31 ≤ length out.old }
+    ensures { Written out.old at (unmade_of made u) 31 out.new result }
+{
+    match u {
+        Unmade::Stopped(s) => {
+            let stopped = put_stop(out, at, s);
+            put_end(out, stopped, made)
+        }
+        Unmade::Refused(x) => put_refused(out, at, x),
+    }
 }
 
 pub fn put_header(out: &mut [u8], at: usize) -> usize

@@ -1,6 +1,6 @@
 use mathlib.Core.Path.{sym, ◌∙◌}
 use native.Mathlib.Omega.{arith}
-use Rattle.walk.proofs.Walks.{turn_start, filled, on, trapped, stopped, refused, ended}
+use Rattle.walk.proofs.Walks.{turn_start, filled, on, trapped, unmade, ended}
 use Rattle.walk.proofs.Promises.{goes, goes_last, window_long}
 use Rattle.walk.proofs.blocks.go_on.Goals as goal
 
@@ -32,20 +32,11 @@ loop-made-smaller c = omega (arith, c.loop-made-test.true)
 pub loop-made-preserved : goal.loop-made-preserved
 loop-made-preserved c = on _ _ _ _ _ _ c.loop-made.invariant c.loop-made-test.true c.if-at-gt-FULL.false c.no_ranges-ranges.ensures c.step_alone-s.ensures c.in-Ok.is c.step_alone-s.auto.window c.put_line-at.ensures (sym c.is_trap.ensures ∙ c.if-is_trap.false)
 
-pub put_stop-stopped-requires : goal.put_stop-stopped-requires
-put_stop-stopped-requires c = omega (arith, c.if-at-gt-FULL.false)
+pub put_unmade-last-requires : goal.put_unmade-last-requires
+put_unmade-last-requires c = omega (arith, c.if-at-gt-FULL.false)
 
-pub put_end-last-requires : goal.put_end-last-requires
-put_end-last-requires c = omega (arith, c.if-at-gt-FULL.false, c.put_stop-stopped.ensures.room, c.put_stop-stopped.ensures.size)
-
-pub returns-in-Err-Stopped : goal.returns-in-Err-Stopped
-returns-in-Err-Stopped c = let t = goes_last _ _ c.requires (stopped _ _ _ _ _ _ c.loop-made.invariant c.loop-made-test.true c.if-at-gt-FULL.false c.no_ranges-ranges.ensures c.step_alone-s.ensures (rw c.in-Err-Stopped.field-0-is at c.in-Err-Stopped.is) c.put_stop-stopped.ensures c.put_end-last.ensures) in record { placed = t.0; part = t.1.0; onward = t.1.1 }
-
-pub put_refused-refused-requires : goal.put_refused-refused-requires
-put_refused-refused-requires c = omega (arith, c.if-at-gt-FULL.false)
-
-pub returns-in-Err-Refused : goal.returns-in-Err-Refused
-returns-in-Err-Refused c = let t = goes_last _ _ c.requires (refused _ _ _ _ _ _ c.loop-made.invariant c.loop-made-test.true c.if-at-gt-FULL.false c.no_ranges-ranges.ensures c.step_alone-s.ensures (rw c.in-Err-Refused.field-0-is at c.in-Err-Refused.is) c.put_refused-refused.ensures) in record { placed = t.0; part = t.1.0; onward = t.1.1 }
+pub returns-in-Err : goal.returns-in-Err
+returns-in-Err c = let t = goes_last _ _ c.requires (unmade _ _ _ _ _ _ c.loop-made.invariant c.loop-made-test.true c.if-at-gt-FULL.false c.no_ranges-ranges.ensures c.step_alone-s.ensures c.in-Err.is c.put_unmade-last.ensures) in record { placed = t.0; part = t.1.0; onward = t.1.1 }
 
 pub returns : goal.returns
 returns c = let t = goes_last _ _ c.requires (ended _ _ _ _ _ _ c.loop-made.invariant c.loop-made-test.false c.put_end-end.ensures) in record { placed = t.0; part = t.1.0; onward = t.1.1 }
