@@ -42,7 +42,8 @@ fn reach_aligned(
     place_at(base, window, base2, window2, size, address).ok_or(DATA)
 }
 
-// An access of some bytes to an address, in one of the two windows. `guarded` says that GW forbids the register that it writes.
+// An access of some bytes to an address, in one of the two windows. `guarded` says that GW forbids the register that it writes. Inlined: where it is called, size and alignment are constants.
+#[inline]
 #[tactic(auto, unfolding(crate::specs::Reach::reach_of))]
 pub fn reach_data(
     base: Address,
