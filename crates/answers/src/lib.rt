@@ -7,7 +7,7 @@ ghost use Rattle.answers.specs.Answers.{packed_of, permit_number, permits_number
 
 use events::event::{Event, stop_number};
 use inputs::verdict::{Refusal, fault, number};
-use machine::answer::Unmade;
+use machine::answer::{Outcome, Unmade};
 use permits::Permits;
 
 fn packed(kind: u8, number: u8, tin: u8, permits: u8, high: u32) -> u64
@@ -63,7 +63,7 @@ fn unmade_answer(u: Unmade, permits: u8, made: u32) -> u64
 }
 
 // Of a step or a run that has made so many steps.
-pub fn outcome_answer(o: Result<Event, Unmade>, permits: u8, made: u32) -> u64
+pub fn outcome_answer(o: Outcome, permits: u8, made: u32) -> u64
     ensures { result ≡ outcome_answer o permits made }
 {
     match o {

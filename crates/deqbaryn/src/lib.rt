@@ -9,8 +9,7 @@ ghost use Rattle.deqbaryn.specs.Host.{version, start_answer, StartTells, step_st
 ghost use Rattle.deqbaryn.specs.Calls.{AcceptedFollows};
 
 use answers::{outcome_answer, permits, verdict_answer, wrong_length};
-use events::event::Event;
-use machine::answer::Unmade;
+use machine::answer::{Outcome, Unmade};
 use machine::steps::{run, step};
 use memory::address::as_address;
 use records::{read_ranges, read_registers, read_requests, write_back};
@@ -50,12 +49,7 @@ pub extern "C" fn deqbaryn_start<'a>(
 }
 
 // A refused or stopped step leaves the record as it was.
-fn store_step(
-    core: &mut [u8],
-    outcome: Result<Event, Unmade>,
-    registers: Registers,
-    requests: [u32; 16],
-)
+fn store_step(core: &mut [u8], outcome: Outcome, registers: Registers, requests: [u32; 16])
     requires { length core.old ≡ 616 }
     ensures { core.new ≡ step_stored outcome registers requests core.old }
 {
@@ -65,12 +59,7 @@ fn store_step(
 }
 
 // A run that stops leaves the record as its last step made left it.
-fn store_run(
-    core: &mut [u8],
-    outcome: Result<Event, Unmade>,
-    registers: Registers,
-    requests: [u32; 16],
-)
+fn store_run(core: &mut [u8], outcome: Outcome, registers: Registers, requests: [u32; 16])
     requires { length core.old ≡ 616 }
     ensures { core.new ≡ run_stored outcome registers requests core.old }
 {

@@ -8,18 +8,21 @@ use inputs::verdict::Refusal;
 use permits::Permits;
 use registers::Registers;
 
-// Why a step was not made: it stopped, or what it was given is refused. A step's outcome is its event or this; a run's is its last step's.
+// Why a step was not made: it stopped, or what it was given is refused.
 #[derive(Clone, Copy)]
 pub enum Unmade {
     Stopped(Stop),
     Refused(Refusal),
 }
 
+// A step's event, or why it was not made. Of a run: its last step's.
+pub type Outcome = Result<Event, Unmade>;
+
 #[derive(Drop)]
 pub struct Stepped {
     pub registers: Registers,
     pub requests: [u32; 16],
-    pub outcome: Result<Event, Unmade>,
+    pub outcome: Outcome,
     pub permits: Permits,
 }
 
@@ -27,12 +30,12 @@ pub struct Stepped {
 pub struct Ran {
     pub registers: Registers,
     pub requests: [u32; 16],
-    pub outcome: Result<Event, Unmade>,
+    pub outcome: Outcome,
     pub made: u32,
 }
 
 // The outcome of a step that was accepted.
-pub fn outcome_of(e: Result<Event, Stop>) -> Result<Event, Unmade>
+pub fn outcome_of(e: Result<Event, Stop>) -> Outcome
     ensures { result ≡ outcome_of e }
 {
     e.map_err(Unmade::Stopped)

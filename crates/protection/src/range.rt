@@ -63,11 +63,13 @@ pub fn search(ranges: &[Range; 32], set: usize, right: Right, address: Address) 
     ensures { (result ≡ lowest_of ranges.now set right address) × Exactly (Lowest ranges.now set right address) result }
 {
     let from = first(set, right);
-    for i in 0..4 {
-        let k = from + i;
-        if permitting(ranges[k], right, address) {
-            return Some(k);
+    'found: {
+        for i in 0..4 {
+            let k = from + i;
+            if permitting(ranges[k], right, address) {
+                break 'found Some(k);
+            }
         }
+        None
     }
-    None
 }

@@ -11,5 +11,5 @@ loop-i-preserved c = below_more _ _ c.loop-i.invariant (sym c.permitting.ensures
 pub returns-then-permitting : goal.returns-then-permitting
 returns-then-permitting c = lowest_is _ _ _ _ (Some _) (found _ _ _ _ _ _ _ c.first-from.ensures.0 c.loop-i-test.true refl (sym c.permitting.ensures ∙ c.if-permitting.true) c.loop-i.invariant)
 
-pub returns : goal.returns
-returns c = lowest_is _ _ _ _ None (rw (← c.first-from.ensures.0) (none _ _ _ 4 _ (λ j h. c.loop-i.invariant j (omega arith))))
+pub returns-after-loop-i : goal.returns-after-loop-i
+returns-after-loop-i c = lowest_is _ _ _ _ None (rw (← c.first-from.ensures.0) (none _ _ _ 4 _ (λ j h. c.loop-i.invariant j (omega arith))))
