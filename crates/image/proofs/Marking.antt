@@ -1,7 +1,9 @@
 -- Marks that hold, and the walk from one.
 -- Assumes nothing.
-use Rattle.std.proofs.Common.{◌≡◌, ℕ, suc, ◌+◌, ◌-◌, ◌*◌, ◌/◌, ◌%◌, ◌^◌, ◌<◌, ◌≤◌, Bool, true, false, cond, ◌&&◌, eqb, List, length, get_or, set, replicate, sym, refl, ◌∙◌, subst, add-one, arith, length-set, get_or-set_other, get_or-set_same, le-ltb, lt-ltb, eq-eqb, ne_eqb, le-leb}
+use Rattle.std.proofs.Common.{◌≡◌, ℕ, zero, suc, ◌+◌, ◌-◌, ◌*◌, ◌/◌, ◌%◌, ◌^◌, ◌<◌, ◌≤◌, Bool, true, false, cond, ◌&&◌, eqb, ltb, Option, Some, None, unwrap_or, List, length, get_or, set, replicate, sym, refl, ap, ◌∙◌, subst, add-one, add-zero, arith, length-set, get_or-set_other, get_or-set_same, le-ltb, lt-ltb, eq-eqb, ne_eqb, le-leb}
 use native.Mathlib.Decide.{ℕ_discrete}
+use Rattle.std.specs.List.{find, range_with_len}
+use Rattle.std.specs.Option.{option_map}
 use lib.ListN.{length-replicate, get_or-replicate, get_or-eq_default}
 use borrow.Author.Tests.{lt-leb}
 use Rattle.image.specs.Lengths.{address_after}
@@ -69,23 +71,20 @@ module _ (img : List ℕ) (shift : ℕ) (marks : List ℕ) where
   unfolding image_marks
   image_more i now after n a = rw (add-one i, ← n) a
 
--- the shift found, or one more
-module _ (n shift bytes : ℕ) where
-  pub shift_found : bytes / 2 / 2 ^ shift < 4080 → shift ≡ shift_from (suc n) shift bytes
-  unfolding shift_from
-  shift_found h = rw (lt-ltb _ _ h)
-
-  pub shift_more : 4080 ≤ bytes / 2 / 2 ^ shift → shift_from n (shift + 1) bytes ≡ shift_from (suc n) shift bytes
-  unfolding shift_from
-  shift_more h = rw (le-ltb _ _ h)
-
-pub shift_end : (shift bytes : ℕ) → shift ≡ shift_from 0 shift bytes
+-- the first shift of a range that serves, or the range's end
+shift_found : (n shift bytes : ℕ) → unwrap_or (find (λ s. ltb (bytes / 2 / 2 ^ s) 4080) (range_with_len shift n)) (shift + n) ≡ shift_from n shift bytes
 unfolding shift_from
-shift_end shift bytes = refl
+shift_found zero shift bytes = add-zero shift
+shift_found (suc n) shift bytes = by (ltb (bytes / 2 / 2 ^ shift) 4080) (shift_found n (shift + 1) bytes)
+  where
+    by : (t : Bool) → unwrap_or (find (λ s. ltb (bytes / 2 / 2 ^ s) 4080) (range_with_len (shift + 1) n)) (shift + 1 + n) ≡ shift_from n (shift + 1) bytes
+        → unwrap_or (cond t (Some shift) (find (λ s. ltb (bytes / 2 / 2 ^ s) 4080) (range_with_len (shift + 1) n))) (shift + suc n) ≡ cond t shift (shift_from n (shift + 1) bytes)
+    by true r = refl
+    by false r = let e : shift + suc n ≡ shift + 1 + n = omega arith in rw e r
 
--- a record of a body, by its index
-pub begins_there : (img : List ℕ) (i : ℕ) → i < entries_of img → (e : Entry) → e ≡ entry_at img i → (k a : ℕ) → k < e.records → a ≡ address_after k img e.offset e.load → Begins img a i k
-begins_there img i h e is k a l y = (h, rw is at l, rw is at y)
+pub shift_first : (n shift bytes : ℕ) (r : Option ℕ) → option_map (λ x. x) r ≡ find (λ s. ltb (bytes / 2 / 2 ^ s) 4080) (range_with_len shift n) → unwrap_or r (shift + n) ≡ shift_from n shift bytes
+shift_first n shift bytes None e = ap (λ o. unwrap_or o (shift + n)) e ∙ shift_found n shift bytes
+shift_first n shift bytes (Some s) e = ap (λ o. unwrap_or o (shift + n)) e ∙ shift_found n shift bytes
 
 -- ---- where a walk to pc starts, by the mark in its place s
 module _ (marks : List ℕ) (shift i : ℕ) (e : Entry) (pc s : ℕ) (is : s ≡ slot_of (bias_of e) (i + 1) shift pc) where

@@ -1,6 +1,6 @@
 -- The records are tried one by one, or several at a time.
 -- Assumes nothing.
-use Rattle.std.proofs.Common.{◌≡◌, ℕ, zero, suc, ◌+◌, ◌-◌, ◌*◌, ◌/◌, ◌%◌, ◌<◌, ◌≤◌, Bool, true, false, cond, not, ◌&&◌, eqb, List, length, get_or, sym, refl, ◌∙◌, arith, ne_eqb}
+use Rattle.std.proofs.Common.{◌≡◌, ℕ, zero, suc, ◌+◌, ◌-◌, ◌*◌, ◌/◌, ◌%◌, ◌<◌, ◌≤◌, Bool, true, false, cond, not, ◌&&◌, eqb, List, get_or, sym, refl, ◌∙◌, arith, ne_eqb}
 use native.Mathlib.Nat.{sub-zero}
 use mathlib.Core.Bool.{and_assoc}
 use borrow.Author.Tests.{not-false}
@@ -11,7 +11,7 @@ use Rattle.image.specs.Table.{bodies_of}
 use Rattle.image.specs.Records.{record_holds, record_at, records_from, total_of}
 use Rattle.image.specs.Marks.{long_from, long_only}
 use Rattle.image.proofs.Tests.{word_form, word_record, word_short}
-use Rattle.image.proofs.Images.{Sized, turn_on, turn_fault, turn_end}
+use Rattle.image.proofs.Images.{turn_on, turn_fault, turn_end}
 use Rattle.image.proofs.Long.{and_one, pass_first, pass_on, pass_end}
 use Rattle.std.specs.Prelude.{Err, Ok, Result, is_ok, ⊤}
 use Rattle.image.specs.declared.table.ImageFault.{ImageFault}
@@ -54,44 +54,32 @@ none_more : (n k : ℕ) → eqb (n + k) 0 ≡ (eqb n 0 && eqb k 0)
 none_more zero k = let e : 0 + k ≡ k = omega arith in rw e
 none_more (suc n) k = rw (ne_eqb (suc n + k) 0 (λ e. omega arith), ne_eqb (suc n) 0 (λ e. omega arith))
 
--- those before byte `at` are in order, and `long` tells whether they are long
-pub record Scanned (img : List ℕ) (at : ℕ) (long : Bool) : Type 0 where
-  pub index : ℕ
-  pub at_is : at ≡ bodies_of img + 8 * index
-  pub most : index ≤ total_of img
-  pub check : records_from (total_of img - index) img at index ≡ records_from (total_of img) img (bodies_of img) 0
-  pub long_is : (long && long_from (total_of img - index) img (bodies_of img + 8 * index)) ≡ long_only img
+-- the first k are in order, and `long` tells whether they are long
+pub record Scanned (img : List ℕ) (k : ℕ) (long : Bool) : Type 0 where
+  pub check : records_from (total_of img - k) img (bodies_of img + 8 * k) k ≡ records_from (total_of img) img (bodies_of img) 0
+  pub long_is : (long && long_from (total_of img - k) img (bodies_of img + 8 * k)) ≡ long_only img
 
-module _ (img : List ℕ) (s : Sized img) where
-  pub scanned_first : (at : ℕ) → at ≡ bodies_of img → Scanned img at true
-  scanned_first at e = record { index = 0; at_is = omega arith; most = omega arith; check = rw (e, sub-zero); long_is = pass_first img true refl }
+module _ (img : List ℕ) where
+  pub scanned_first : Scanned img 0 true
+  scanned_first =
+      let y : bodies_of img + 8 * 0 ≡ bodies_of img = omega arith in
+      record { check = rw (y, sub-zero); long_is = pass_first img true refl }
 
-  module _ (at : ℕ) (long : Bool) (c : Scanned img at long) where
-    inside : at < length img → c.index < total_of img
-    inside h = let l = s.length_is in omega (arith, c.at_is)
+  module _ (k : ℕ) (long : Bool) (c : Scanned img k long) where
+    pub scanned_end : total_of img ≤ k → (Ok tt ≡ records_from (total_of img) img (bodies_of img) 0) × (long ≡ long_only img)
+    scanned_end h = (turn_end img (bodies_of img + 8 * k) k refl h ∙ c.check, sym (pass_end img long k h) ∙ c.long_is)
 
-    pub scanned_end : length img ≤ at → (Ok tt ≡ records_from (total_of img) img (bodies_of img) 0) × (long ≡ long_only img)
-    scanned_end h =
-        let k : total_of img ≤ c.index = (let l = s.length_is in omega (arith, c.at_is)) in
-        (turn_end img at c.index c.at_is k ∙ c.check, sym (pass_end img long c.index k) ∙ c.long_is)
+    pub scanned_fault : k < total_of img → record_at img (bodies_of img + 8 * k) ≡ false → Err (Record k) ≡ records_from (total_of img) img (bodies_of img) 0
+    scanned_fault h t = turn_fault img (bodies_of img + 8 * k) k refl h t ∙ c.check
 
-    pub scanned_fault : at < length img → record_at img at ≡ false → (from : ℕ) → from ≡ bodies_of img → Err (Record ((at - from) / 8)) ≡ records_from (total_of img) img (bodies_of img) 0
-    scanned_fault h t from e =
-        let q : (at - from) / 8 ≡ c.index = omega (arith, c.at_is) in
-        rw q (turn_fault img at c.index c.at_is (inside h) t ∙ c.check)
-
-    pub scanned_on : at < length img → record_at img at ≡ true → Scanned img (at + 8) (long && not (is_short (get_or img at 0)))
+    scanned_on : k < total_of img → record_at img (bodies_of img + 8 * k) ≡ true → Scanned img (k + 1) (long && not (is_short (get_or img (bodies_of img + 8 * k) 0)))
     scanned_on h t =
-        record {
-          index = c.index + 1;
-          at_is = omega (arith, c.at_is);
-          most = omega (arith, inside h);
-          check = turn_on img at c.index c.at_is (inside h) t ∙ c.check;
-          long_is = rw c.at_is (pass_on img long c.index (inside h)) ∙ c.long_is;
-        }
+        let y : bodies_of img + 8 * (k + 1) ≡ bodies_of img + 8 * k + 8 = omega arith in
+        record { check = rw y (turn_on img (bodies_of img + 8 * k) k refl h t) ∙ c.check; long_is = pass_on img long k h ∙ c.long_is }
 
     -- the same by the record's first word, where the short ones are counted
-    pub scanned_word : (short : ℕ) → long ≡ eqb short 0 → at < length img → (w : ℕ) → ((j : ℕ) → get_or img j 0 < 256) → w ≡ word_at img at → (fits : Bool) → fits ≡ record_holds (operation_number (w % 256)) (w / 256 % 256) (w / 65536 % 256) (w / 16777216) → not fits ≡ false
-        → Scanned img (at + 8) (eqb (short + w / 128 % 2) 0)
+    pub scanned_word : (short : ℕ) → long ≡ eqb short 0 → k < total_of img → (w : ℕ) → ((j : ℕ) → get_or img j 0 < 256) → w ≡ word_at img (bodies_of img + 8 * k) → (fits : Bool) → fits ≡ record_holds (operation_number (w % 256)) (w / 256 % 256) (w / 65536 % 256) (w / 16777216) → not fits ≡ false
+        → Scanned img (k + 1) (eqb (short + w / 128 % 2) 0)
     scanned_word short g h w known e fits f t =
+        let at = bodies_of img + 8 * k in
         rw (none_more short (w / 128 % 2), ← g, word_form w, word_short img at w known e) (scanned_on h (sym (f ∙ word_record img at w known e) ∙ not-false fits t))

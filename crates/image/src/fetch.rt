@@ -104,8 +104,7 @@ fn walk_body(image: &[u8], at: usize, from: u32, n: u32, pc: u32) -> Rest
     ensures { result ≡ body_walk n image.now at from pc }
 {
     let mut here = from;
-    let mut k: u32 = 0;
-    while k < n {
+    for k in 0..n {
         let byte = at + 8 * k as usize;
         if pc < here {
             return Rest { records: 0, at: 0 };
@@ -117,18 +116,16 @@ fn walk_body(image: &[u8], at: usize, from: u32, n: u32, pc: u32) -> Rest
             };
         }
         here += length_of(image[byte]);
-        k += 1;
     }
     Rest { records: 0, at: 0 }
 }
 
-// The records of a body from pc on, in an image without short forms that rules 2 and 3 accept. The count of entries is read only where the first one has none.
+// The records of a body from pc on, in an image without short forms that rules 2 and 3 accept.
 pub fn rest_long(image: &[u8], pc: u32) -> Rest
     requires { ImageHolds image.now × (long_only image.now ≡ true) }
     ensures { result ≡ rest_of image.now pc }
 {
-    let mut i: u32 = 0;
-    loop {
+    for i in 0..word_at(image, 0) {
         let e = read_entry(image, i as usize);
         let k = index_from(e.load, pc);
         if k < e.records {
@@ -137,11 +134,8 @@ pub fn rest_long(image: &[u8], pc: u32) -> Rest
                 at: e.offset as usize + 8 * k as usize,
             };
         }
-        i += 1;
-        if i == word_at(image, 0) {
-            return Rest { records: 0, at: 0 };
-        }
     }
+    Rest { records: 0, at: 0 }
 }
 
 // A record of a body to walk from: its index, and the address at which it begins.
@@ -198,6 +192,7 @@ pub fn rest_at(image: &[u8], marks: &[u64], shift: u32, pc: u32) -> InBody
     requires { ImageHolds image.now × MarksHold image.now marks.now }
     ensures { (result.rest ≡ rest_of image.now pc) × (result.entry ≡ entry_of image.now pc) }
 {
+    // As a `for` over the entries it makes the run's compiled loop 3 or 4 instructions longer for each step.
     let mut i: u32 = 0;
     loop {
         let r = rest_in(image, marks, shift, i, pc);

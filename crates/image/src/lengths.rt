@@ -16,10 +16,8 @@ pub fn address_after(image: &[u8], at: usize, from: u64, n: u32) -> u64
     ensures { result ≡ address_after n image.now at from }
 {
     let mut here = from;
-    let mut k: u32 = 0;
-    while k < n {
+    for k in 0..n {
         here += length_of(image[at + 8 * k as usize]) as u64;
-        k += 1;
     }
     here
 }

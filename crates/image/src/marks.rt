@@ -62,14 +62,9 @@ pub fn slot_of(bias: u32, entry: u32, shift: u32, pc: u32) -> usize
 fn shift_for(bytes: usize) -> u32
     ensures { result ≡ shift_of bytes }
 {
-    let mut shift: u32 = 1;
-    while shift < 31 {
-        if (bytes / 2) >> shift < 4080 {
-            return shift;
-        }
-        shift += 1;
-    }
-    shift
+    (1..31)
+        .find(|&shift| (bytes / 2) >> shift < 4080)
+        .unwrap_or(31)
 }
 
 // Of the records with one place the first is marked.
@@ -95,11 +90,9 @@ fn mark_body(image: &[u8], marks: &mut [u64; 4096], shift: u32, i: u32)
     let at = e.offset as usize;
     let bias = bias_of(e);
     let mut here = e.load;
-    let mut k: u32 = 0;
-    while k < e.records {
+    for k in 0..e.records {
         put_mark(image, marks, slot_of(bias, i + 1, shift, here), i, k, here);
         here += length_of(image[at + 8 * k as usize]);
-        k += 1;
     }
 }
 
@@ -111,10 +104,8 @@ pub fn mark_image(image: &[u8], marks: &mut [u64; 4096]) -> u32
 {
     let n = word_at(image, 0);
     let shift = shift_for(image.len());
-    let mut i: u32 = 0;
-    while i < n {
+    for i in 0..n {
         mark_body(image, marks, shift, i);
-        i += 1;
     }
     shift
 }

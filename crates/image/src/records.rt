@@ -61,12 +61,10 @@ fn scan_all(image: &[u8]) -> Scan
     let count = (image.len() - from) / 8;
     let mut hold = true;
     let mut long = true;
-    let mut k: usize = 0;
-    while k < count {
+    for k in 0..count {
         let w = word_at(image, from + 8 * k);
         hold = hold & word_holds(w);
         long = long & word_long(w);
-        k += 1;
     }
     Scan {
         hold: hold,
@@ -81,15 +79,14 @@ fn scan_each(image: &[u8]) -> Result<bool, ImageFault>
 {
     let n = word_at(image, 0);
     let from = 4 + 12 * n as usize;
-    let mut at = from;
+    let count = (image.len() - from) / 8;
     let mut short: u32 = 0;
-    while at < image.len() {
-        let w = word_at(image, at);
+    for k in 0..count {
+        let w = word_at(image, from + 8 * k);
         if !word_fits(w) {
-            return Err(ImageFault::Record(((at - from) / 8) as u32));
+            return Err(ImageFault::Record(k as u32));
         }
         short += w / 0x80 % 2;
-        at += 8;
     }
     Ok(short == 0)
 }

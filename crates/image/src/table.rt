@@ -98,8 +98,7 @@ fn check_entries(image: &[u8], n: u32) -> Result<(), ImageFault>
         records: 0,
         offset: 0,
     };
-    let mut i: u32 = 0;
-    while i < n {
+    for i in 0..n {
         let e = read_entry(image, i as usize);
         if !entry_fits(e, start, len) {
             return Err(ImageFault::Table(i + 1));
@@ -112,7 +111,6 @@ fn check_entries(image: &[u8], n: u32) -> Result<(), ImageFault>
         }
         start += 8 * e.records as u64;
         last = e;
-        i += 1;
     }
     if start == len {
         return Ok(());

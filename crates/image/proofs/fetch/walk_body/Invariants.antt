@@ -1,10 +1,7 @@
-use Rattle.std.proofs.Common.{◌≡◌, ◌+◌, ◌-◌, ◌*◌, ◌≤◌}
+use Rattle.std.proofs.Common.{◌≡◌, ◌+◌, ◌-◌, ◌*◌}
 use Rattle.image.specs.Lengths.{address_after}
 use Rattle.image.specs.Rest.{body_walk}
 use Rattle.image.proofs.fetch.walk_body.Given as goal
 
 abbrev pub invariant-loop-k : goal.invariant-loop-k
-invariant-loop-k l = (l.k ≤ l.n) × (l.here ≡ address_after l.k l.image l.at l.from) × (body_walk (l.n - l.k) l.image (l.at + 8 * l.k) l.here l.pc ≡ body_walk l.n l.image l.at l.from l.pc)
-
-abbrev pub decreases-loop-k : goal.decreases-loop-k
-decreases-loop-k l = l.n - l.k
+invariant-loop-k l = (l.here ≡ address_after l.k l.image l.at l.from) × (body_walk (l.n - l.k) l.image (l.at + 8 * l.k) l.here l.pc ≡ body_walk l.n l.image l.at l.from l.pc)

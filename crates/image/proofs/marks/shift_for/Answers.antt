@@ -1,30 +1,10 @@
-use Rattle.std.proofs.Common.{◌≡◌, suc, ◌+◌, ◌-◌, refl, ◌∙◌, arith}
-use Rattle.image.proofs.Marking.{shift_found, shift_more, shift_end}
+use Rattle.std.proofs.Common.{◌/◌, ◌^◌, ◌∙◌, refl, ltb, rules, tests}
+use Rattle.std.proofs.lemmas.Iterator.{YieldsList-from_range}
+use Rattle.std.proofs.lemmas.Iterator.Search.{find_from_yields_List}
+use Rattle.image.proofs.Marking.{shift_first}
 use Rattle.image.proofs.marks.shift_for.Goals as goal
-
-pub loop-shift-init : goal.loop-shift-init
-loop-shift-init c = (omega arith, refl)
-
-pub returns-then-bytes-shift-lt4080 : goal.returns-then-bytes-shift-lt4080
-returns-then-bytes-shift-lt4080 c =
-    let l = c.loop-shift in
-    let z : 31 - l.shift ≡ suc (31 - (l.shift + 1)) = omega (arith, c.loop-shift-test.true) in
-    shift_found (31 - (l.shift + 1)) _ _ c.if-bytes-shift-lt4080.true ∙ (rw z at l.invariant.1)
-
-pub overflow_add-shift : goal.overflow_add-shift
-overflow_add-shift c = omega arith
-
-pub loop-shift-smaller : goal.loop-shift-smaller
-loop-shift-smaller c = omega arith
-
-pub loop-shift-preserved : goal.loop-shift-preserved
-loop-shift-preserved c =
-    let l = c.loop-shift in
-    let z : 31 - l.shift ≡ suc (31 - (l.shift + 1)) = omega (arith, c.loop-shift-test.true) in
-    (omega (arith, c.loop-shift-test.true), shift_more (31 - (l.shift + 1)) _ _ c.if-bytes-shift-lt4080.false ∙ (rw z at l.invariant.1))
 
 pub returns : goal.returns
 returns c =
-    let l = c.loop-shift in
-    let z : 31 - l.shift ≡ 0 = omega (arith, c.loop-shift-test.false) in
-    shift_end _ _ ∙ (rw z at l.invariant.1)
+    let first = find_from_yields_List (λ s. ltb (c.args.bytes / 2 / 2 ^ s) 4080) _ _ _ c.find.ensures.ran (YieldsList-from_range 1 31 30 refl refl) (λ x b q k. search (rules, tests)) in
+    c.unwrap_or.ensures ∙ shift_first 30 1 c.args.bytes _ first

@@ -1,4 +1,4 @@
-use Rattle.std.proofs.Common.{◌≡◌, ◌+◌, ◌-◌, ◌*◌, ◌≤◌, ◌&&◌}
+use Rattle.std.proofs.Common.{◌≡◌, ◌+◌, ◌-◌, ◌*◌, ◌&&◌}
 use Rattle.std.specs.Prelude.{is_ok}
 use Rattle.image.specs.Table.{bodies_of}
 use Rattle.image.specs.Records.{total_of, records_from}
@@ -6,11 +6,5 @@ use Rattle.image.specs.Marks.{long_from, long_only}
 use Rattle.image.proofs.records.scan_all.Given as goal
 
 abbrev pub invariant-loop-k : goal.invariant-loop-k
-invariant-loop-k l = (l.from ≡ bodies_of l.image)
-    × (l.count ≡ total_of l.image)
-    × (l.k ≤ total_of l.image)
-    × ((l.hold && is_ok (records_from (total_of l.image - l.k) l.image (bodies_of l.image + 8 * l.k) l.k)) ≡ is_ok (records_from (total_of l.image) l.image (bodies_of l.image) 0))
+invariant-loop-k l = ((l.hold && is_ok (records_from (total_of l.image - l.k) l.image (bodies_of l.image + 8 * l.k) l.k)) ≡ is_ok (records_from (total_of l.image) l.image (bodies_of l.image) 0))
     × ((l.long && long_from (total_of l.image - l.k) l.image (bodies_of l.image + 8 * l.k)) ≡ long_only l.image)
-
-abbrev pub decreases-loop-k : goal.decreases-loop-k
-decreases-loop-k l = l.count - l.k

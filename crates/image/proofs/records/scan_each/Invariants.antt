@@ -1,10 +1,6 @@
-use Rattle.std.proofs.Common.{◌≡◌, ◌+◌, ◌-◌, ◌*◌, ◌≤◌, eqb, length}
-use Rattle.image.specs.Table.{bodies_of}
+use Rattle.std.proofs.Common.{◌≤◌, eqb}
 use Rattle.image.proofs.Scanning.{Scanned}
 use Rattle.image.proofs.records.scan_each.Given as goal
 
-abbrev pub invariant-loop-at : goal.invariant-loop-at
-invariant-loop-at l = (l.from ≡ bodies_of l.image) × Scanned l.image l.at (eqb l.short 0) × (bodies_of l.image + 8 * l.short ≤ l.at)
-
-abbrev pub decreases-loop-at : goal.decreases-loop-at
-decreases-loop-at l = length l.image - l.at
+abbrev pub invariant-loop-k : goal.invariant-loop-k
+invariant-loop-k l = Scanned l.image l.k (eqb l.short 0) × (l.short ≤ l.k)

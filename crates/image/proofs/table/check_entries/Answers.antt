@@ -6,39 +6,18 @@ use Rattle.image.proofs.Tests.{fits, holds_by}
 use Rattle.image.proofs.Tables.{turn_on, turn_fault, turn_end, turn_over}
 use Rattle.image.proofs.table.check_entries.Goals as goal
 
-pub overflow_mul-start : goal.overflow_mul-start
-overflow_mul-start c = omega arith
-
-pub overflow_add-start : goal.overflow_add-start
-overflow_add-start c = omega arith
-
 pub loop-i-init : goal.loop-i-init
-loop-i-init c = (omega arith, c.requires.1, omega arith, omega arith, rw (sub-zero, after_none c.args.image.now 0 0))
-
-pub overflow_cast-i : goal.overflow_cast-i
-overflow_cast-i c = omega arith
-
-pub read_entry-e-requires : goal.read_entry-e-requires
-read_entry-e-requires c = omega arith
-
-pub overflow_add-result : goal.overflow_add-result
-overflow_add-result c = omega arith
+loop-i-init c = (c.requires.1, omega arith, omega arith, rw (sub-zero, after_none c.args.image.now 0 0))
 
 pub returns-then-not-entry_fits : goal.returns-then-not-entry_fits
 returns-then-not-entry_fits c =
     let l = c.loop-i in
     turn_fault c.args.n c.args.image.now l.i l.start (range_end c.args.image.now l.last) c.read_entry-e.result c.read_entry-e.ensures c.loop-i-test.true
     (holds_by c.args.image.now c.read_entry-e.result l.start (range_end c.args.image.now l.last) false _ _ (sym c.entry_fits.ensures ∙ c.if-not-entry_fits.true) refl refl)
-    ∙ l.invariant.4
-
-pub overflow_cast-e : goal.overflow_cast-e
-overflow_cast-e c = omega arith
+    ∙ l.invariant.3
 
 pub ends_by-requires : goal.ends_by-requires
-ends_by-requires c = (c.loop-i.invariant.2, c.loop-i.invariant.3)
-
-pub overflow_add-result-then-not-ends_by : goal.overflow_add-result-then-not-ends_by
-overflow_add-result-then-not-ends_by c = omega arith
+ends_by-requires c = (c.loop-i.invariant.1, c.loop-i.invariant.2)
 
 pub returns-then-not-ends_by : goal.returns-then-not-ends_by
 returns-then-not-ends_by c =
@@ -46,13 +25,10 @@ returns-then-not-ends_by c =
     let img = c.args.image.now in
     turn_fault c.args.n img l.i l.start (range_end img l.last) c.read_entry-e.result c.read_entry-e.ensures c.loop-i-test.true
     (holds_by img c.read_entry-e.result l.start (range_end img l.last) true false _ (sym c.entry_fits.ensures ∙ c.if-not-entry_fits.false) (sym c.ends_by.ensures ∙ c.if-not-ends_by.true) refl)
-    ∙ l.invariant.4
+    ∙ l.invariant.3
 
 pub ends_by-requires-in-loop-i : goal.ends_by-requires-in-loop-i
 ends_by-requires-in-loop-i c = let f = fits c.read_entry-e.result c.loop-i.start (length c.args.image.now) (sym c.entry_fits.ensures ∙ c.if-not-entry_fits.false) in (f.ends, f.most)
-
-pub overflow_add-result-then-not-ends_by-2 : goal.overflow_add-result-then-not-ends_by-2
-overflow_add-result-then-not-ends_by-2 c = omega arith
 
 pub returns-then-not-ends_by-2 : goal.returns-then-not-ends_by-2
 returns-then-not-ends_by-2 c =
@@ -60,22 +36,10 @@ returns-then-not-ends_by-2 c =
     let img = c.args.image.now in
     turn_fault c.args.n img l.i l.start (range_end img l.last) c.read_entry-e.result c.read_entry-e.ensures c.loop-i-test.true
     (holds_by img c.read_entry-e.result l.start (range_end img l.last) true true false (sym c.entry_fits.ensures ∙ c.if-not-entry_fits.false) (sym c.ends_by.ensures ∙ c.if-not-ends_by.false) (sym c.ends_by-in-loop-i.ensures ∙ c.if-not-ends_by-2.true))
-    ∙ l.invariant.4
-
-pub overflow_cast-start-in-loop-i : goal.overflow_cast-start-in-loop-i
-overflow_cast-start-in-loop-i c = omega arith
-
-pub overflow_mul-start-in-loop-i : goal.overflow_mul-start-in-loop-i
-overflow_mul-start-in-loop-i c = let f = fits c.read_entry-e.result c.loop-i.start (length c.args.image.now) (sym c.entry_fits.ensures ∙ c.if-not-entry_fits.false) in omega (arith, f.most)
+    ∙ l.invariant.3
 
 pub overflow_add-start-in-loop-i : goal.overflow_add-start-in-loop-i
 overflow_add-start-in-loop-i c = let f = fits c.read_entry-e.result c.loop-i.start (length c.args.image.now) (sym c.entry_fits.ensures ∙ c.if-not-entry_fits.false) in omega (arith, f.most)
-
-pub overflow_add-i : goal.overflow_add-i
-overflow_add-i c = omega arith
-
-pub loop-i-smaller : goal.loop-i-smaller
-loop-i-smaller c = omega arith
 
 pub loop-i-preserved : goal.loop-i-preserved
 loop-i-preserved c =
@@ -84,21 +48,20 @@ loop-i-preserved c =
     let e = c.read_entry-e.result in
     let w = sym c.entry_fits.ensures ∙ c.if-not-entry_fits.false in
     let f = fits e l.start (length img) w in (
-      omega arith,
       omega (arith, f.begins, f.ends),
       f.ends,
       f.most,
       turn_on c.args.n img l.i l.start (range_end img l.last) e c.read_entry-e.ensures c.loop-i-test.true
           (holds_by img e l.start (range_end img l.last) true true true w (sym c.ends_by.ensures ∙ c.if-not-ends_by.false) (sym c.ends_by-in-loop-i.ensures ∙ c.if-not-ends_by-2.false))
-          ∙ l.invariant.4,
+          ∙ l.invariant.3,
     )
 
 pub returns-then-start-len : goal.returns-then-start-len
 returns-then-start-len c =
     let l = c.loop-i in
-    turn_end c.args.n c.args.image.now l.i l.start (range_end c.args.image.now l.last) l.invariant.0 c.loop-i-test.false c.if-start-len.true ∙ l.invariant.4
+    turn_end c.args.n c.args.image.now l.i l.start (range_end c.args.image.now l.last) (omega arith) c.loop-i-test.false c.if-start-len.true ∙ l.invariant.3
 
 pub returns : goal.returns
 returns c =
     let l = c.loop-i in
-    turn_over c.args.n c.args.image.now l.i l.start (range_end c.args.image.now l.last) l.invariant.0 c.loop-i-test.false c.if-start-len.false ∙ l.invariant.4
+    turn_over c.args.n c.args.image.now l.i l.start (range_end c.args.image.now l.last) (omega arith) c.loop-i-test.false c.if-start-len.false ∙ l.invariant.3
