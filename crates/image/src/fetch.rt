@@ -149,13 +149,11 @@ fn start_of(image: &[u8], marks: &[u64], shift: u32, i: u32, e: Entry, pc: u32) 
     let slot = slot_of(bias_of(e), i + 1, shift, pc);
     if slot < marks.len() {
         let m = marks[slot];
-        if mark_entry(m) == i + 1 {
-            if mark_address(m) <= pc {
-                return Start {
-                    index: mark_index(m),
-                    address: mark_address(m),
-                };
-            }
+        if mark_entry(m) == i + 1 && mark_address(m) <= pc {
+            return Start {
+                index: mark_index(m),
+                address: mark_address(m),
+            };
         }
     }
     Start {
@@ -210,12 +208,9 @@ pub fn fetch(image: &[u8], pc: u32) -> Option<Instruction>
     requires { ImageHolds image.now }
     ensures { (result ≡ fetch_of image.now pc) × Bounded result × FetchSays image.now pc result }
 {
-    let none = [0; 1];
-    let found = rest_at(image, &none, 0, pc);
-    let rest = found.rest;
-    if rest.records == 0 {
+    let Rest { records, at } = rest_at(image, &[], 0, pc).rest;
+    if records == 0 {
         return None;
     }
-    let at = rest.at;
     Some(read_record(image, at, next_after(image, at, pc)))
 }

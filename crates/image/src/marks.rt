@@ -73,10 +73,8 @@ fn put_mark(image: &[u8], marks: &mut [u64; 4096], slot: usize, i: u32, k: u32, 
     ensures marked { Marked image.now marks.new }
     ensures written { marks.new ≡ put_mark marks.old slot i k address }
 {
-    if slot < 4096 {
-        if mark_entry(marks[slot]) != i + 1 {
-            marks[slot] = mark(i, k, address);
-        }
+    if slot < 4096 && mark_entry(marks[slot]) != i + 1 {
+        marks[slot] = mark(i, k, address);
     }
 }
 
