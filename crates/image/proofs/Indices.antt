@@ -1,8 +1,8 @@
 -- The index of a record from an address on.
 -- Assumes nothing.
-use Rattle.std.proofs.Common.{◌≡◌, ℕ, ◌+◌, ◌-◌, ◌*◌, ◌/◌, ◌%◌, ◌^◌, ◌<◌, ◌≤◌, refl, lt_of_not-le, arith}
+use Rattle.std.proofs.Common.{◌≡◌, ℕ, ◌+◌, ◌-◌, ◌*◌, ◌/◌, ◌%◌, ◌^◌, ◌<◌, ◌≤◌, lt_of_not-le, arith}
 use native.Mathlib.Decide.{dec_le}
-use Rattle.image.specs.Rest.{far_of, index_of, IndexSays}
+use Rattle.image.specs.Rest.{far_of, index_of}
 
 -- an index below 2^30 is a distance that is a multiple of 4
 small : (far n : ℕ) → n ≤ 2 ^ 30 → far / 4 + far % 4 * 2 ^ 30 < n → (far % 4 ≡ 0) × (far / 4 < n)
@@ -31,12 +31,6 @@ index_in from pc n f p m b h = by (dec_le from pc)
     by : Dec (from ≤ pc) → pc ≡ from + 4 * (far_of from pc / 4 + far_of from pc % 4 * 2 ^ 30)
     by (yes l) = reaches from pc (far_of from pc) n l (above from pc p l) s.0
     by (no l) = absurd (wraps (far_of from pc) (under from pc f (lt_of_not-le l)) s.1)
-
--- the code's distance, which wraps
-pub index_wrapped : (from pc far : ℕ) → from < 2 ^ 32 → pc < 2 ^ 32 → far < 2 ^ 32 → (far + from) % 2 ^ 32 ≡ pc
-    → (far / 4 + far % 4 * 2 ^ 30 ≡ index_of from pc) × IndexSays from pc (far / 4 + far % 4 * 2 ^ 30)
-unfolding index_of
-index_wrapped from pc far h k l w = let e : far ≡ far_of from pc = omega arith in rw e (refl, λ n m b s. index_in from pc n h k m b s)
 
 -- the index of a record that is so many after the one at an address
 pub index_is : (from j : ℕ) → from + 4 * j < 2 ^ 32 → index_of from (from + 4 * j) ≡ j

@@ -1,6 +1,6 @@
 -- Marks that hold, and the walk from one.
 -- Assumes nothing.
-use Rattle.std.proofs.Common.{◌≡◌, ℕ, zero, suc, ◌+◌, ◌-◌, ◌*◌, ◌/◌, ◌%◌, ◌^◌, ◌<◌, ◌≤◌, Bool, true, false, cond, ◌&&◌, eqb, ltb, Option, Some, None, unwrap_or, List, length, get_or, set, replicate, sym, refl, ap, ◌∙◌, subst, add-one, add-zero, arith, length-set, get_or-set_other, get_or-set_same, le-ltb, lt-ltb, eq-eqb, ne_eqb, le-leb}
+use Rattle.std.proofs.Common.{◌≡◌, ℕ, zero, suc, ◌+◌, ◌-◌, ◌*◌, ◌/◌, ◌^◌, ◌<◌, ◌≤◌, Bool, true, false, cond, ◌&&◌, eqb, ltb, Option, Some, None, unwrap_or, List, length, get_or, set, replicate, sym, refl, ap, ◌∙◌, subst, add-one, add-zero, arith, length-set, get_or-set_other, get_or-set_same, le-ltb, lt-ltb, eq-eqb, ne_eqb, le-leb}
 use native.Mathlib.Decide.{ℕ_discrete}
 use Rattle.std.specs.List.{find, range_with_len}
 use Rattle.std.specs.Option.{option_map}
@@ -8,7 +8,7 @@ use lib.ListN.{length-replicate, get_or-replicate, get_or-eq_default}
 use borrow.Author.Tests.{lt-leb}
 use Rattle.image.specs.Lengths.{address_after}
 use Rattle.image.specs.Table.{entries_of, entry_at}
-use Rattle.image.specs.Rest.{rest, body_walk, rest_in, Begins}
+use Rattle.image.specs.Rest.{rest, body_walk, rest_in, Begins, far_of}
 use Rattle.image.specs.declared.fetch.Start.{Start}
 use Rattle.image.specs.Marks.{mark_entry, mark_index, mark_address, slot_of, bias_of, shift_from, mark_of, put_mark, body_marks, image_marks, marked_start, MarkHolds, MarksHold, Marked}
 use Rattle.image.specs.Rules.{ImageRight}
@@ -118,10 +118,10 @@ module _ (img : List ℕ) (g : ImageRight img) (i : ℕ) (h : i < entries_of img
   first_begins = let r = g.table.entries i h in (h, omega (arith, r.some), rw is (sym (after_none img (entry_at img i).offset (entry_at img i).load)))
 
   -- pc lies before the body, or past the end that it had with long records alone
-  pub outside : (pc far : ℕ) → pc < 2 ^ 32 → far < 2 ^ 32 → (far + e.load) % 2 ^ 32 ≡ pc → 4 * e.records ≤ far → rest 0 0 ≡ rest_in img (entry_at img i) pc
-  outside pc far p q w l = rw is at (go (ℕ_discrete far (pc - e.load)))
+  pub outside : (pc : ℕ) → pc < 2 ^ 32 → 4 * e.records ≤ far_of e.load pc → rest 0 0 ≡ rest_in img (entry_at img i) pc
+  outside pc p l = rw is at (go (ℕ_discrete (far_of e.load pc) (pc - e.load)))
     where
-      go : Dec (far ≡ pc - e.load) → rest 0 0 ≡ body_walk e.records img e.offset e.load pc
+      go : Dec (far_of e.load pc ≡ pc - e.load) → rest 0 0 ≡ body_walk e.records img e.offset e.load pc
       go (yes f) = by whole.1
         where
           by : e.records ≤ 0x1_0000 → rest 0 0 ≡ body_walk e.records img e.offset e.load pc
@@ -129,8 +129,8 @@ module _ (img : List ℕ) (g : ImageRight img) (i : ℕ) (h : i < entries_of img
       go (no f) = let b = whole.3 in let s = whole.0 in let u = after_low e.records img e.offset e.load in sym (walk_before e.records img e.offset e.load pc (omega arith))
 
   -- otherwise pc is not before it
-  pub inside : (pc far : ℕ) → pc < 2 ^ 32 → far < 2 ^ 32 → (far + e.load) % 2 ^ 32 ≡ pc → far < 4 * e.records → e.load ≤ pc
-  inside pc far p q w l = let m = whole.1 in let b = whole.3 in let u = after_low e.records img e.offset e.load in omega arith
+  pub inside : (pc : ℕ) → pc < 2 ^ 32 → far_of e.load pc < 4 * e.records → e.load ≤ pc
+  inside pc p l = let m = whole.1 in let b = whole.3 in let u = after_low e.records img e.offset e.load in omega arith
 
   -- from a record that begins at pc or before it
   module _ (k a : ℕ) (b : Begins img a i k) where

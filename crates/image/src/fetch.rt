@@ -33,6 +33,9 @@ pub struct Rest {
     pub at: usize,
 }
 
+// Where no record begins at an address.
+const NO_RECORD: Rest = Rest { records: 0, at: 0 };
+
 // The same with the place of the body's entry in the table.
 #[derive(Clone, Copy)]
 pub struct InBody {
@@ -47,11 +50,11 @@ pub fn read_record(image: &[u8], at: usize, next: u32) -> Instruction
 {
     Instruction {
         op: decode(image[at]),
-        c: wide(image[at + 1]),
-        a: wide(image[at + 2]),
-        b: wide(image[at + 3]),
+        c: image[at + 1] as usize,
+        a: image[at + 2] as usize,
+        b: image[at + 3] as usize,
         imm: word_at(image, at + 4),
-        next: next,
+        next,
     }
 }
 
@@ -70,7 +73,7 @@ pub fn read_operand(image: &[u8], at: usize) -> Operand
 {
     Operand {
         access: access_of(operation_number(image[at])),
-        a: wide(image[at + 2]),
+        a: image[at + 2] as usize,
         imm: word_at(image, at + 4),
     }
 }
@@ -80,21 +83,14 @@ pub fn next_after(image: &[u8], at: usize, pc: u32) -> u32
     requires { at < length image.now }
     ensures { result ≡ next_after image.now at pc }
 {
-    std::num::wrapping_add_u32(pc, length_of(image[at]))
-}
-
-// A byte as an index.
-pub fn wide(b: u8) -> usize
-    ensures { result ≡ b }
-{
-    b as usize
+    pc.wrapping_add(length_of(image[at]))
 }
 
 // How many records of 4 addresses pc stands after the one at `from`. Where pc lies below it, or within a record, the answer is past every body: the distance wraps, and its two low bits count highest.
 pub fn index_from(from: u32, pc: u32) -> u32
     ensures { (result ≡ index_of from pc) × IndexSays from pc result }
 {
-    let far = std::num::wrapping_sub_u32(pc, from);
+    let far = pc.wrapping_sub(from);
     far / 4 + far % 4 * 0x4000_0000
 }
 
@@ -107,7 +103,7 @@ fn walk_body(image: &[u8], at: usize, from: u32, n: u32, pc: u32) -> Rest
     for k in 0..n {
         let byte = at + 8 * k as usize;
         if pc < here {
-            return Rest { records: 0, at: 0 };
+            return NO_RECORD;
         }
         if pc == here {
             return Rest {
@@ -117,7 +113,7 @@ fn walk_body(image: &[u8], at: usize, from: u32, n: u32, pc: u32) -> Rest
         }
         here += length_of(image[byte]);
     }
-    Rest { records: 0, at: 0 }
+    NO_RECORD
 }
 
 // The records of a body from pc on, in an image without short forms that rules 2 and 3 accept.
@@ -135,7 +131,7 @@ pub fn rest_long(image: &[u8], pc: u32) -> Rest
             };
         }
     }
-    Rest { records: 0, at: 0 }
+    NO_RECORD
 }
 
 // A record of a body to walk from: its index, and the address at which it begins.
@@ -153,13 +149,11 @@ fn start_of(image: &[u8], marks: &[u64], shift: u32, i: u32, e: Entry, pc: u32) 
     let slot = slot_of(bias_of(e), i + 1, shift, pc);
     if slot < marks.len() {
         let m = marks[slot];
-        if mark_entry(m) == i + 1 {
-            if mark_address(m) <= pc {
-                return Start {
-                    index: mark_index(m),
-                    address: mark_address(m),
-                };
-            }
+        if mark_entry(m) == i + 1 && mark_address(m) <= pc {
+            return Start {
+                index: mark_index(m),
+                address: mark_address(m),
+            };
         }
     }
     Start {
@@ -174,8 +168,8 @@ fn rest_in(image: &[u8], marks: &[u64], shift: u32, i: u32, pc: u32) -> Rest
     ensures { result ≡ rest_in image.now (entry_at image.now i) pc }
 {
     let e = read_entry(image, i as usize);
-    if 4 * e.records <= std::num::wrapping_sub_u32(pc, e.load) {
-        return Rest { records: 0, at: 0 };
+    if 4 * e.records <= pc.wrapping_sub(e.load) {
+        return NO_RECORD;
     }
     let s = start_of(image, marks, shift, i, e, pc);
     walk_body(
@@ -202,7 +196,7 @@ pub fn rest_at(image: &[u8], marks: &[u64], shift: u32, pc: u32) -> InBody
         i += 1;
         if i == word_at(image, 0) {
             return InBody {
-                rest: Rest { records: 0, at: 0 },
+                rest: NO_RECORD,
                 entry: 0,
             };
         }
@@ -214,12 +208,9 @@ pub fn fetch(image: &[u8], pc: u32) -> Option<Instruction>
     requires { ImageHolds image.now }
     ensures { (result ≡ fetch_of image.now pc) × Bounded result × FetchSays image.now pc result }
 {
-    let none = [0; 1];
-    let found = rest_at(image, &none, 0, pc);
-    let rest = found.rest;
-    if rest.records == 0 {
+    let Rest { records, at } = rest_at(image, &[], 0, pc).rest;
+    if records == 0 {
         return None;
     }
-    let at = rest.at;
     Some(read_record(image, at, next_after(image, at, pc)))
 }

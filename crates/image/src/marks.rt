@@ -48,14 +48,14 @@ pub fn mark_address(m: u64) -> u32
 pub fn bias_of(e: Entry) -> u32
     ensures { result ≡ bias_of e }
 {
-    std::num::wrapping_sub_u32(e.offset / 2, e.load)
+    (e.offset / 2).wrapping_sub(e.load)
 }
 
 // Where the mark for pc stands, of the body of an entry, from 1.
 pub fn slot_of(bias: u32, entry: u32, shift: u32, pc: u32) -> usize
     ensures { result ≡ slot_of bias entry shift pc }
 {
-    (std::num::wrapping_add_u32(pc, bias) >> (shift % 32)) as usize + entry as usize
+    (pc.wrapping_add(bias) >> (shift % 32)) as usize + entry as usize
 }
 
 // The least shift with which marks for so many bytes of an image stand in 4,096 places.
@@ -73,10 +73,8 @@ fn put_mark(image: &[u8], marks: &mut [u64; 4096], slot: usize, i: u32, k: u32, 
     ensures marked { Marked image.now marks.new }
     ensures written { marks.new ≡ put_mark marks.old slot i k address }
 {
-    if slot < 4096 {
-        if mark_entry(marks[slot]) != i + 1 {
-            marks[slot] = mark(i, k, address);
-        }
+    if slot < 4096 && mark_entry(marks[slot]) != i + 1 {
+        marks[slot] = mark(i, k, address);
     }
 }
 

@@ -63,13 +63,10 @@ fn scan_all(image: &[u8]) -> Scan
     let mut long = true;
     for k in 0..count {
         let w = word_at(image, from + 8 * k);
-        hold = hold & word_holds(w);
-        long = long & word_long(w);
+        hold &= word_holds(w);
+        long &= word_long(w);
     }
-    Scan {
-        hold: hold,
-        long: long,
-    }
+    Scan { hold, long }
 }
 
 // The records, one by one, to the first at fault; where all hold, whether none is a short form. Counting the short ones costs less than a flag.

@@ -64,13 +64,7 @@ pub fn check_table(image: &[u8]) -> Result<(), ImageFault>
         return Err(ImageFault::Table(0));
     }
     let n = word_at(image, 0);
-    if n < 1 {
-        return Err(ImageFault::Table(0));
-    }
-    if 16 < n {
-        return Err(ImageFault::Table(0));
-    }
-    if len < 4 + 12 * n as usize {
+    if n < 1 || 16 < n || len < 4 + 12 * n as usize {
         return Err(ImageFault::Table(0));
     }
     check_entries(image, n)

@@ -1,6 +1,8 @@
-use Rattle.std.proofs.Common.{arith}
-use Rattle.image.proofs.Indices.{index_wrapped}
+use Rattle.std.proofs.Common.{refl, arith}
+use Rattle.image.specs.Rest.{index_of}
+use Rattle.image.proofs.Indices.{index_in}
 use Rattle.image.proofs.fetch.index_from.Goals as goal
 
 pub returns : goal.returns
-returns c = index_wrapped _ _ _ (omega arith) (omega arith) (omega arith) c.wrapping_sub_u32-far.ensures.value
+unfolding index_of
+returns c = (refl, λ n m b s. index_in c.args.from c.args.pc n (omega arith) (omega arith) m b s)

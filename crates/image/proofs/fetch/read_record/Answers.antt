@@ -3,4 +3,4 @@ use Rattle.image.proofs.fetch.read_record.Goals as goal
 
 pub returns : goal.returns
 unfolding instruction_at
-returns c = λ pc e. rw (c.decode.ensures, c.wide.ensures, c.wide-2.ensures, c.wide-3.ensures, c.word_at.ensures, e)
+returns c = λ pc e. rw (c.decode.ensures, c.word_at.ensures, e)

@@ -12,15 +12,15 @@ overflow_mul-e c =
     let w = whole _ (image_right c.args.image.now p.0) _ p.2 c.read_entry-e.result c.read_entry-e.ensures in
     omega (arith, w.1)
 
-pub returns-then-e-wrapping_sub_u32 : goal.returns-then-e-wrapping_sub_u32
-returns-then-e-wrapping_sub_u32 c =
+pub returns-then-e-pc : goal.returns-then-e-pc
+returns-then-e-pc c =
     let p = c.requires in
-    outside _ (image_right c.args.image.now p.0) _ p.2 c.read_entry-e.result c.read_entry-e.ensures _ _ (omega arith) (omega arith) c.wrapping_sub_u32.ensures.value c.if-e-wrapping_sub_u32.true
+    outside _ (image_right c.args.image.now p.0) _ p.2 c.read_entry-e.result c.read_entry-e.ensures _ (omega arith) c.if-e-pc.true
 
 pub start_of-s-requires : goal.start_of-s-requires
 start_of-s-requires c =
     let p = c.requires in
-    let i = inside _ (image_right c.args.image.now p.0) _ p.2 c.read_entry-e.result c.read_entry-e.ensures _ _ (omega arith) (omega arith) c.wrapping_sub_u32.ensures.value c.if-e-wrapping_sub_u32.false in
+    let i = inside _ (image_right c.args.image.now p.0) _ p.2 c.read_entry-e.result c.read_entry-e.ensures _ (omega arith) c.if-e-pc.false in
     (p.0, p.1, p.2, c.read_entry-e.ensures, i)
 
 pub overflow_sub-e : goal.overflow_sub-e

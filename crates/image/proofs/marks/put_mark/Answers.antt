@@ -1,6 +1,7 @@
 use Rattle.std.proofs.Common.{sym, ◌∙◌, arith}
 use Rattle.image.proofs.Images.{image_right}
 use Rattle.image.proofs.Marking.{mark_holds, put_marked, put_here, put_had, put_beyond}
+use Rattle.image.proofs.marks.put_mark.Goals.{else-slot-lt4096-via-then-slot-lt4096+else-mark_entry-i, else-slot-lt4096-via-else-slot-lt4096}
 use Rattle.image.proofs.marks.put_mark.Goals as goal
 
 pub overflow_add-i : goal.overflow_add-i
@@ -21,8 +22,8 @@ returns-then-mark_entry-i c =
     let e = c.mark.ensures in
     record { marked = put_marked _ _ _ _ p.2 (mark_holds _ _ _ _ _ e.0 e.1 e.2 p.1); written = rw e.3 (put_here _ _ _ _ _ c.if-slot-lt4096.true (λ x. c.if-mark_entry-i.true (c.mark_entry.ensures ∙ x))) }
 
-pub returns-else-mark_entry-i : goal.returns-else-mark_entry-i
-returns-else-mark_entry-i c = record { marked = c.requires.2; written = put_had _ _ _ _ _ c.if-slot-lt4096.true (sym c.mark_entry.ensures ∙ c.if-mark_entry-i.false) }
-
-pub returns-else-slot-lt4096 : goal.returns-else-slot-lt4096
-returns-else-slot-lt4096 c = record { marked = c.requires.2; written = put_beyond _ _ _ _ _ c.if-slot-lt4096.false }
+pub returns-else-slot-lt4096-clause-written : goal.returns-else-slot-lt4096-clause-written
+returns-else-slot-lt4096-clause-written c = elim c.else-slot-lt4096.branch [
+  | else-slot-lt4096-via-then-slot-lt4096+else-mark_entry-i w ↦ put_had _ _ _ _ _ w.if-slot-lt4096.true (sym w.mark_entry.ensures ∙ w.if-mark_entry-i.false)
+  | else-slot-lt4096-via-else-slot-lt4096 w ↦ put_beyond _ _ _ _ _ w.if-slot-lt4096.false
+]
