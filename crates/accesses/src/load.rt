@@ -46,7 +46,7 @@ fn signed_half(h: u32) -> u32
 }
 
 // The data at an address, or the trap that the access takes.
-#[inline]
+#[inline(always)]
 fn read<W: Width>(
     base: Address,
     window: &[u8],

@@ -43,7 +43,7 @@ fn reach_aligned(
 }
 
 // An access of some bytes to an address, in one of the two windows. `guarded` says that GW forbids the register that it writes. Inlined: where it is called, size and alignment are constants.
-#[inline]
+#[inline(always)]
 #[tactic(auto, unfolding(crate::specs::Reach::reach_of))]
 pub fn reach_data(
     base: Address,

@@ -21,7 +21,7 @@ use protection::range::{Range, Right};
 use registers::{CORE, PC, Registers};
 
 // Writes the low bytes of a register's value at an address, or answers the trap that the access takes.
-#[inline]
+#[inline(always)]
 fn write<W: Width>(
     base: Address,
     window: &mut [u8],

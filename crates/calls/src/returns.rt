@@ -65,6 +65,7 @@ pub fn ret(
     }
 }
 
+#[inline(never)]
 pub fn rfe(
     base: Address,
     window: &mut [u8],

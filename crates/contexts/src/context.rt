@@ -44,6 +44,7 @@ fn lower(registers: &Registers, pc: u32) -> [u32; 16]
 }
 
 // The context of a half, with the saved PC of a lower one.
+#[inline(always)]
 pub fn context(registers: &Registers, half: Half, pc: u32) -> [u32; 16]
     ensures { result ≡ context_of half pc registers.now }
 {

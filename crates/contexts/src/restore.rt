@@ -17,6 +17,7 @@ use memory::{read_words, word_at};
 use registers::{FCX, PCXI, PSW, Registers};
 
 // The registers of a half, from the bytes of its area. Of a lower context the saved PC is passed over.
+#[inline(always)]
 fn read_half(bytes: &[u8], registers: &mut Registers, half: Half)
     requires { length bytes.now ≡ 64 }
     ensures { registers.new ≡ half_of half bytes.now registers.old }
@@ -37,6 +38,7 @@ fn read_half(bytes: &[u8], registers: &mut Registers, half: Half)
 }
 
 // Loads a half of the context from the area at PCXI's link, and links the area to the free list.
+#[inline(always)]
 fn load(
     base: Address,
     window: &mut [u8],
@@ -61,6 +63,7 @@ fn load(
 }
 
 // Returns to a half of the context: a stop where the area lies in neither window.
+#[inline(always)]
 pub fn restore(
     base: Address,
     window: &mut [u8],

@@ -41,6 +41,7 @@ pub fn find(
 }
 
 // Whether an FCD entry follows the save of the area at FCX, and whether there is an area for it.
+#[inline(always)]
 fn foresee(
     base: Address,
     window: &[u8],
@@ -80,6 +81,7 @@ pub fn take(
 }
 
 // A save of a half of the context, with the saved PC of a lower one. Nothing is written before it is known that neither it nor an FCD entry after it stops.
+#[inline(always)]
 pub fn save(
     base: Address,
     window: &mut [u8],
