@@ -24,19 +24,12 @@ pub enum Spot {
 }
 
 // The place of some bytes from an address on, in a window of len bytes at base, if they lie in it.
+#[tactic(auto, unfolding(crate::specs::Place::placed_in))]
 fn place_in(base: Address, len: usize, size: u8, a: Address) -> Option<usize>
     ensures { result ≡ placed_in base len size a }
 {
-    let from = base.0;
-    let to = a.0;
-    if to < from {
-        return None;
-    }
-    let at = (to - from) as usize;
-    if len < at + size as usize {
-        return None;
-    }
-    Some(at)
+    let at = a.0.checked_sub(base.0)? as usize;
+    (at + size as usize <= len).then_some(at)
 }
 
 // Whichever window has some bytes from an address on.
@@ -50,12 +43,12 @@ pub fn spot_at(
 ) -> Spot
     ensures { result ≡ spot_at (windows base (length window.now) base2) (length (window.now ++ window2.now)) size a }
 {
-    match place_in(base, window.len(), size, a) {
-        Some(at) => Spot::First(at),
-        None => match place_in(base2, window2.len(), size, a) {
-            Some(at) => Spot::Second(at),
-            None => Spot::Neither,
-        },
+    if let Some(at) = place_in(base, window.len(), size, a) {
+        Spot::First(at)
+    } else if let Some(at) = place_in(base2, window2.len(), size, a) {
+        Spot::Second(at)
+    } else {
+        Spot::Neither
     }
 }
 

@@ -1,15 +1,20 @@
--- The counter in CDC, mask by mask.
+-- The counter in CDC.
 -- Assumes nothing.
-use Prim.Native.Nat.{ℕ, suc, ◌-◌, ◌/◌, ◌%◌, ◌^◌, ◌≤◌, ◌<◌}
+use Prim.Native.Nat.{ℕ, zero, suc, ◌+◌, ◌*◌, ◌/◌, ◌%◌, ◌^◌, ◌≤◌, ◌<◌}
+use native.Mathlib.Nat.{pow-suc, mod-lt}
+use native.Mathlib.Numerals.{one-add}
 use native.Mathlib.Omega.{arith}
-use mathlib.Core.Path.{◌≡◌, ◌∙◌}
-use mathlib.Core.Bool.{true}
+use mathlib.Core.Path.{◌≡◌, sym, ◌∙◌}
+use mathlib.Core.Bool.{Bool, true, false}
+use mathlib.Core.Logic.{⊎_elim}
 use lib.Dec.{ltb}
-use borrow.Author.Tests.{eq-eqb, ne_eqb, ltb-true, eqb-true}
+use lib.Pow.{mod-pow-add, pow_pos, pow_mono}
+use borrow.Author.Tests.{eq-eqb, ne_eqb, ltb-true}
+use Rattle.words.proofs.Integers.{lt_or_ge}
 use Rattle.words.proofs.Truth.{both_true}
-use Rattle.words.specs.Bits.{bit}
+use Rattle.words.specs.Bits.{bit, number}
 use Rattle.fields.specs.Field.{is_set}
-use Rattle.fields.specs.Depth.{psw_cdc, counter_bits, counter_of, counts}
+use Rattle.fields.specs.Depth.{psw_cdc, counter_bits, counts}
 
 -- a one belongs to the mask
 mask : (n cdc : ℕ) → cdc / 2 ^ n % 2 ≡ 1 → counter_bits (suc n) cdc ≡ counter_bits n cdc
@@ -21,46 +26,36 @@ ends : (n cdc : ℕ) → cdc / 2 ^ n % 2 ≡ 0 → counter_bits (suc n) cdc ≡ 
 unfolding counter_bits is_set bit
 ends n cdc h = let e : cdc / 2 ^ n % 2 ≡ 1 → ⊥ = omega arith in rw (ne_eqb _ _ e)
 
-pub record Counts (cdc count above : ℕ) : Type 0 where
-  pub count_is : count ≡ counter_of cdc
-  pub above_is : above ≡ 2 ^ counter_bits 7 cdc
-  pub small : count < 0x7F
+-- a digit and what is below it
+digit : (n w : ℕ) → w % 2 ^ suc n ≡ w / 2 ^ n % 2 * 2 ^ n + w % 2 ^ n
+digit n w = rw (← one-add n) (mod-pow-add w 1 n)
 
-bits : (cdc n : ℕ) → counter_bits 7 cdc ≡ n → (count : ℕ) → count ≡ cdc % 2 ^ n → count < 0x7F → Counts cdc count (2 ^ n)
-bits cdc n e count is s = record { count_is = rw (e, is); above_is = rw e; small = s }
+between : {m n : ℕ} → 2 ^ m < 2 * 2 ^ n → 2 ^ n < 2 * 2 ^ m → m ≡ n
+between {m} {n} h k =
+    ⊎_elim
+    (λ l. let p = pow_mono {i = suc m} {j = n} l in let q = pow-suc 2 m in absurd (omega arith))
+    (λ l. ⊎_elim
+    (λ r. let p = pow_mono {i = suc n} {j = m} r in let q = pow-suc 2 n in absurd (omega arith))
+    (λ r. omega arith)
+    (lt_or_ge n m))
+    (lt_or_ge m n)
 
-module _ (cdc : ℕ) where
-  pub six : cdc < 0x40 → Counts cdc cdc 0x40
-  six h = bits cdc 6 (ends 6 cdc (omega arith)) cdc (omega arith) (omega arith)
-
-  pub five : 0x40 ≤ cdc → cdc < 0x60 → Counts cdc (cdc - 0x40) 0x20
-  five l h = bits cdc 5 (mask 6 cdc (omega arith) ∙ ends 5 cdc (omega arith)) (cdc - 0x40) (omega arith) (omega arith)
-
-  pub four : 0x60 ≤ cdc → cdc < 0x70 → Counts cdc (cdc - 0x60) 0x10
-  four l h =
-      bits cdc 4 (mask 6 cdc (omega arith) ∙ mask 5 cdc (omega arith) ∙ ends 4 cdc (omega arith)) (cdc - 0x60) (omega arith) (omega arith)
-
-  pub three : 0x70 ≤ cdc → cdc < 0x78 → Counts cdc (cdc - 0x70) 8
-  three l h =
-      bits cdc 3 (mask 6 cdc (omega arith) ∙ mask 5 cdc (omega arith) ∙ mask 4 cdc (omega arith) ∙ ends 3 cdc (omega arith)) (cdc - 0x70) (omega arith) (omega arith)
-
-  pub two : 0x78 ≤ cdc → cdc < 0x7C → Counts cdc (cdc - 0x78) 4
-  two l h =
-      bits cdc 2 (mask 6 cdc (omega arith) ∙ mask 5 cdc (omega arith) ∙ mask 4 cdc (omega arith) ∙ mask 3 cdc (omega arith) ∙ ends 2 cdc (omega arith)) (cdc - 0x78) (omega arith) (omega arith)
-
-  pub one : 0x7C ≤ cdc → cdc < 0x7E → Counts cdc (cdc - 0x7C) 2
-  one l h =
-      bits cdc 1 (mask 6 cdc (omega arith) ∙ mask 5 cdc (omega arith) ∙ mask 4 cdc (omega arith) ∙ mask 3 cdc (omega arith) ∙ mask 2 cdc (omega arith) ∙ ends 1 cdc (omega arith)) (cdc - 0x7C) (omega arith) (omega arith)
-
-  pub none : 0x7E ≤ cdc → cdc < 0x7F → Counts cdc 0 1
-  none l h =
-      bits cdc 0 (mask 6 cdc (omega arith) ∙ mask 5 cdc (omega arith) ∙ mask 4 cdc (omega arith) ∙ mask 3 cdc (omega arith) ∙ mask 2 cdc (omega arith) ∙ mask 1 cdc (omega arith) ∙ ends 0 cdc (omega arith)) 0 (omega arith) (omega arith)
+-- it is the highest 1 of the complement in k bits
+pub highest : (k n cdc : ℕ) → 2 ^ n + cdc % 2 ^ k < 2 ^ k → 2 ^ k ≤ 2 * 2 ^ n + cdc % 2 ^ k → counter_bits k cdc ≡ n
+highest zero n cdc h g = let p = pow_pos n in absurd (omega arith)
+highest (suc k) n cdc h g =
+    let p = pow-suc 2 k in let l = mod-lt cdc (pow_pos k) in
+    ⊎_elim
+    (λ z. let z' : cdc / 2 ^ k % 2 ≡ 0 = omega arith in let d = rw z' at (digit k cdc) in ends k cdc z' ∙ between {m = k} {n = n} (omega arith) (omega arith))
+    (λ o. let o' : cdc / 2 ^ k % 2 ≡ 1 = omega arith in let d = rw o' at (digit k cdc) in mask k cdc o' ∙ highest k n cdc (omega arith) (omega arith))
+    (lt_or_ge (cdc / 2 ^ k % 2) 1)
 
 -- what counts is below seven ones
 pub below : (psw : ℕ) → counts psw ≡ true → psw % 0x80 < 0x7F
 unfolding counts
 below psw h = let t = both_true (is_set 7 psw) (ltb (psw_cdc psw) 0x7F) h in let l = ltb-true (psw_cdc psw) 0x7F t.1 in omega arith
 
-pub cde : (psw : ℕ) → counts psw ≡ true → psw / 0x80 % 2 ≡ 1
-unfolding counts is_set bit
-cde psw h = let t = both_true (is_set 7 psw) (ltb (psw_cdc psw) 0x7F) h in eqb-true (psw / 0x80 % 2) 1 t.0
+-- so that it has room to go up
+pub room : (psw : ℕ) (t : Bool) → t ≡ counts psw → psw % 0x80 + number t < 0x80
+room psw true e = let h = below psw (sym e) in omega arith
+room psw false e = omega arith

@@ -1,11 +1,9 @@
 -- A flag's bit, as a truth value and as a number.
 -- Assumes nothing.
-use Prim.Native.Nat.{ℕ, zero, suc, ◌+◌, ◌*◌, ◌/◌, ◌%◌, ◌^◌, ◌≤◌}
-use native.Mathlib.Nat.{not-suc-le-zero, le_of_suc-le-suc}
-use lib.Bits.{bit_or}
+use Prim.Native.Nat.{ℕ, ◌/◌, ◌%◌, ◌^◌, ◌≤◌}
 use native.Mathlib.Omega.{arith}
 use mathlib.Core.Path.{◌≡◌, refl}
-use mathlib.Core.Bool.{Bool, true, false, ◌||◌}
+use mathlib.Core.Bool.{Bool, true, false}
 use borrow.Author.Tests.{eqb-true, eqb-false}
 use lib.Dec.{eqb, lit≤}
 use Rattle.words.specs.Bits.{number, bit}
@@ -26,11 +24,3 @@ number_eqb n h = tested n (eqb n 1) h refl
 pub number_is_set : (i w : ℕ) → number (is_set i w) ≡ w / 2 ^ i % 2
 unfolding is_set bit
 number_is_set i w = number_eqb (w / 2 ^ i % 2) (omega arith)
-
--- a sticky bit, and the two bits of a flag that is set
-pub joined : (old : ℕ) (b : Bool) → old ≤ 1 → (bit_or old (number b * 3) ≡ 2 * number b + number (b || eqb old 1)) × (bit_or old (number b * 3) ≤ 3)
-joined zero true h = (refl, lit≤ tt)
-joined zero false h = (refl, lit≤ tt)
-joined (suc zero) true h = (refl, lit≤ tt)
-joined (suc zero) false h = (refl, lit≤ tt)
-joined (suc (suc n)) b h = absurd (not-suc-le-zero (le_of_suc-le-suc h))

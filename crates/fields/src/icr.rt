@@ -18,11 +18,9 @@ pub fn priority(icr: u32) -> u32
 }
 
 // ICR with IE and CCPN written.
+#[tactic(auto, unfolding(crate::specs::Icr::icr_of))]
 pub fn written(icr: u32, ie: bool, ccpn: u32) -> u32
     ensures { result ≡ icr_of icr ie ccpn }
 {
-    if ie {
-        return icr / 0x200 * 0x200 + 0x100 + ccpn % 0x100;
-    }
-    icr / 0x200 * 0x200 + ccpn % 0x100
+    icr / 0x200 * 0x200 + ie as u32 * 0x100 + ccpn % 0x100
 }

@@ -27,13 +27,10 @@ pub fn upper(pcxi: u32) -> bool
 }
 
 // PCXI after a save of the upper or the lower context into the area that the link names.
+#[tactic(auto, using(crate::proofs::Flags::number_is_set), unfolding(crate::specs::Pcxi::pcxi_of))]
 pub fn saved(icr: u32, ul: bool, l: Link) -> u32
     requires { l.0 < 2 ^ 20 }
     ensures { result ≡ pcxi_of icr ul l }
 {
-    let previous = icr % 0x100 * 0x100_0000 + icr / 0x100 % 2 * 0x80_0000;
-    if ul {
-        return previous + 0x40_0000 + l.0;
-    }
-    previous + l.0
+    icr % 0x100 * 0x100_0000 + icr / 0x100 % 2 * 0x80_0000 + ul as u32 * 0x40_0000 + l.0
 }

@@ -11,13 +11,11 @@ pub fn priority(src: u32) -> u8
 }
 
 // SRE, bit 9, and SR, bit 10, are 1.
+#[tactic(auto, unfolding(crate::specs::Request::requests, crate::specs::Field::is_set, words::specs::Bits::bit))]
 pub fn pending(src: u32) -> bool
     ensures { result ≡ requests src }
 {
-    if src / 0x200 % 2 == 1 {
-        return src / 0x400 % 2 == 1;
-    }
-    false
+    src / 0x200 % 2 == 1 && src / 0x400 % 2 == 1
 }
 
 // SR is 0.

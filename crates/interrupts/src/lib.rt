@@ -7,6 +7,7 @@ ghost use Rattle.words.specs.Exactly.{Exactly};
 ghost use Rattle.interrupts.specs.Sources.{better_of, best_of, takes, cleared_at, Highest};
 
 // The enabled requesting source of the highest priority number, with that number; 16 and 0 for none.
+// No `Option`: the run asks `taken` before each step, and level 0 never stands above CCPN, so that it needs no test for none.
 #[derive(Clone, Copy)]
 pub struct Best {
     pub source: u8,
@@ -14,19 +15,16 @@ pub struct Best {
 }
 
 // The better of the best so far and source i: a tie goes to the higher source number.
+#[tactic(auto, unfolding(crate::specs::Sources::better_of))]
 fn better(b: Best, i: u8, src: u32) -> Best
     ensures { result ≡ better_of b i src }
 {
-    if fields::request::pending(src) {
-        let priority = fields::request::priority(src);
-        if b.level <= priority {
-            return Best {
-                source: i,
-                level: priority,
-            };
-        }
+    let level = fields::request::priority(src);
+    if fields::request::pending(src) && b.level <= level {
+        Best { source: i, level }
+    } else {
+        b
     }
-    b
 }
 
 // The best of the sixteen sources.
@@ -44,22 +42,20 @@ pub fn best_source(sources: &[u32; 16]) -> Best
 }
 
 // Whether a source with that priority number is taken: IE is 1, and it stands above CCPN.
+#[tactic(auto, unfolding(crate::specs::Sources::takes))]
 pub fn taken(icr: u32, level: u8) -> bool
     ensures { result ≡ takes icr level }
 {
-    if fields::icr::enabled(icr) {
-        return fields::icr::priority(icr) < level as u32;
-    }
-    false
+    fields::icr::enabled(icr) && fields::icr::priority(icr) < level as u32
 }
 
 // Clears the request of one source.
+#[tactic(auto, unfolding(crate::specs::Sources::cleared_at))]
 pub fn clear(sources: &mut [u32; 16], source: u8)
     ensures { sources.new ≡ cleared_at sources.old source }
 {
     let i = source as usize;
-    if 16 <= i {
-        return;
+    if i < 16 {
+        sources[i] = fields::request::cleared(sources[i]);
     }
-    sources[i] = fields::request::cleared(sources[i]);
 }

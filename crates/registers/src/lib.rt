@@ -45,27 +45,27 @@ pub fn core_places() -> [usize; CORE]
 }
 
 // The second operand: register b, or the immediate where b is 16.
+#[tactic(auto, unfolding(crate::specs::Registers::second_of))]
 pub fn second(xs: &[u32; 16], b: usize, imm: u32) -> u32
     requires { b ≤ 16 }
     ensures { result ≡ second_of xs.now b imm }
 {
-    if b == 16 {
-        return imm;
-    }
-    xs[b]
+    if b == 16 { imm } else { xs[b] }
 }
 
 // Addresses add and subtract modulo 2^32.
+#[tactic(auto, unfolding(crate::specs::Registers::plus_of))]
 pub fn plus(x: u32, y: u32) -> u32
     ensures { result ≡ plus_of x y }
 {
-    std::num::wrapping_add_u32(x, y)
+    x.wrapping_add(y)
 }
 
+#[tactic(auto, unfolding(crate::specs::Registers::minus_of))]
 pub fn minus(x: u32, y: u32) -> u32
     ensures { result ≡ minus_of x y }
 {
-    std::num::wrapping_sub_u32(x, y)
+    x.wrapping_sub(y)
 }
 
 // A new PC: bit 0 is cleared.
@@ -76,24 +76,17 @@ pub fn new_pc(pc: u32) -> u32
 }
 
 // Whether an address register is global: A0, A1, A8 and A9.
+#[tactic(auto, unfolding(crate::specs::Registers::is_global))]
 fn global(n: usize) -> bool
     ensures { result ≡ is_global n }
 {
-    match n {
-        0 => true,
-        1 => true,
-        8 => true,
-        9 => true,
-        _ => false,
-    }
+    matches!(n, 0 | 1 | 8 | 9)
 }
 
 // Whether writing address register n traps: it is global, and GW is 0.
+#[tactic(auto, unfolding(crate::specs::Registers::guards))]
 pub fn guarded(psw: u32, n: usize) -> bool
     ensures { result ≡ guards psw n }
 {
-    if global(n) {
-        return !fields::psw::global_writes(psw);
-    }
-    false
+    global(n) && !fields::psw::global_writes(psw)
 }

@@ -7,7 +7,7 @@ ghost use Rattle.words.specs.Value.{signed, low, within, clamp, shift_count};
 pub fn signed_value(w: u32) -> i64
     ensures { result ≡ signed w }
 {
-    std::num::wrapping_add_u32(w, 0x8000_0000) as i64 - 0x8000_0000
+    w.wrapping_add(0x8000_0000) as i64 - 0x8000_0000
 }
 
 // The low 32 bits.
@@ -18,23 +18,25 @@ pub fn low_bits(z: i64) -> u32
 }
 
 // Whether z lies from lo to hi.
+#[tactic(auto, unfolding(crate::specs::Value::within))]
 pub fn in_range(lo: i64, hi: i64, z: i64) -> bool
     ensures { result ≡ within lo hi z }
 {
-    lo <= z && z <= hi
+    (lo..=hi).contains(&z)
 }
 
 // z, or the end of the range that it lies past.
+#[tactic(auto, unfolding(crate::specs::Value::clamp))]
 pub fn clamped(lo: i64, hi: i64, z: i64) -> i64
     ensures { result ≡ clamp lo hi z }
 {
     if z < lo {
-        return lo;
+        lo
+    } else if hi < z {
+        hi
+    } else {
+        z
     }
-    if hi < z {
-        return hi;
-    }
-    z
 }
 
 // A shift count: the signed low six bits.

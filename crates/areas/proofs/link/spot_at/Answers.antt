@@ -11,12 +11,12 @@ pub returns-in-Some-place_in : goal.returns-in-Some-place_in
 returns-in-Some-place_in c =
     let a = c.args in
     spot_second a.window.now a.window2.now _ _ _ _ _
-    (sym c.place_in.ensures ∙ c.in-None.is)
-    (sym c.place_in-in-None.ensures ∙ c.in-Some-place_in.is)
+    (sym c.place_in.ensures ∙ c.in_default.is)
+    (sym c.place_in-in_default.ensures ∙ c.in-Some-place_in.is)
 
-pub returns-in-None-place_in : goal.returns-in-None-place_in
-returns-in-None-place_in c =
+pub returns-in_default-place_in : goal.returns-in_default-place_in
+returns-in_default-place_in c =
     let a = c.args in
     spot_neither a.window.now a.window2.now _ _ _ _
-    (sym c.place_in.ensures ∙ c.in-None.is)
-    (sym c.place_in-in-None.ensures ∙ c.in-None-place_in.is)
+    (sym c.place_in.ensures ∙ c.in_default.is)
+    (sym c.place_in-in_default.ensures ∙ c.in_default-place_in.is)

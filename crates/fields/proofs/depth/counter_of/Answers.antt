@@ -1,23 +1,13 @@
-use Rattle.fields.proofs.Counters.{six, five, four, three, two, one, none}
+use Rattle.std.proofs.Common.{arith, ◌≡◌, ◌*◌, ◌^◌, ◌%◌, refl}
+use Rattle.fields.specs.Depth.{counter_bits}
+use Rattle.fields.proofs.Counters.{highest}
 use Rattle.fields.proofs.depth.counter_of.Goals as goal
 
-pub returns-then-cdc-lt64 : goal.returns-then-cdc-lt64
-returns-then-cdc-lt64 c = let k = six _ c.if-cdc-lt64.true in (k.count_is, k.above_is, k.small)
-
-pub returns-then-cdc-lt96 : goal.returns-then-cdc-lt96
-returns-then-cdc-lt96 c = let k = five _ c.if-cdc-lt64.false c.if-cdc-lt96.true in (k.count_is, k.above_is, k.small)
-
-pub returns-then-cdc-lt112 : goal.returns-then-cdc-lt112
-returns-then-cdc-lt112 c = let k = four _ c.if-cdc-lt96.false c.if-cdc-lt112.true in (k.count_is, k.above_is, k.small)
-
-pub returns-then-cdc-lt120 : goal.returns-then-cdc-lt120
-returns-then-cdc-lt120 c = let k = three _ c.if-cdc-lt112.false c.if-cdc-lt120.true in (k.count_is, k.above_is, k.small)
-
-pub returns-then-cdc-lt124 : goal.returns-then-cdc-lt124
-returns-then-cdc-lt124 c = let k = two _ c.if-cdc-lt120.false c.if-cdc-lt124.true in (k.count_is, k.above_is, k.small)
-
-pub returns-then-cdc-lt126 : goal.returns-then-cdc-lt126
-returns-then-cdc-lt126 c = let k = one _ c.if-cdc-lt124.false c.if-cdc-lt126.true in (k.count_is, k.above_is, k.small)
-
 pub returns : goal.returns
-returns c = let k = none _ c.if-cdc-lt126.false c.requires in (k.count_is, k.above_is, k.small)
+returns c =
+    let n = c.ilog2-above.result in
+    let l = c.ilog2-above.ensures.power_le in
+    let g = c.ilog2-above.ensures.next_power_gt in
+    let e : counter_bits 7 c.args.cdc ≡ n = highest 7 n c.args.cdc (omega arith) (omega arith) in
+    let s : 1 * 2 ^ n % 2 ^ 32 ≡ 2 ^ n = omega arith in
+    rw (e, s) (refl, refl, omega arith)

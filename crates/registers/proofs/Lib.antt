@@ -1,1 +1,0 @@
--- Laws that the proofs of several functions cite.
