@@ -65,6 +65,7 @@ pub fn ret(
     }
 }
 
+// Not inlined: with it in the run's loop, loops without a return come out longer.
 #[inline(never)]
 pub fn rfe(
     base: Address,

@@ -33,7 +33,7 @@ pub fn upper(registers: &Registers) -> [u32; 16]
 }
 
 // The lower context: PCXI, the saved PC, A2 to A7, D0 to D7.
-fn lower(registers: &Registers, pc: u32) -> [u32; 16]
+pub fn lower(registers: &Registers, pc: u32) -> [u32; 16]
     ensures { result ≡ lower_of pc registers.now }
 {
     let Registers { d, a, core } = registers;
@@ -43,7 +43,7 @@ fn lower(registers: &Registers, pc: u32) -> [u32; 16]
     ]
 }
 
-// The context of a half, with the saved PC of a lower one.
+// The context of a half, with the saved PC of a lower one. Inlined, as saves and returns are: their callers give the half as a constant.
 #[inline(always)]
 pub fn context(registers: &Registers, half: Half, pc: u32) -> [u32; 16]
     ensures { result ≡ context_of half pc registers.now }

@@ -25,7 +25,7 @@ use protection::range::Range;
 use registers::{PC, Registers};
 use system::instructions::execute_system;
 
-// An instruction that is done and leaves ICR, SYSCON and PSW.PRS as they are, or the ending of any other.
+// An instruction that is done and leaves ICR, SYSCON and PSW.PRS as they are, or the ending of any other. No `Option`: `None` would read as an instruction that did not end.
 #[derive(Clone, Copy)]
 pub enum Executed {
     Steady,

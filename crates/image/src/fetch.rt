@@ -33,7 +33,7 @@ pub struct Rest {
     pub at: usize,
 }
 
-// Where no record begins at an address.
+// Where no record begins at an address. No `Option`: whoever asks compares the count next, and none is then no case of its own.
 const NO_RECORD: Rest = Rest { records: 0, at: 0 };
 
 // The same with the place of the body's entry in the table.

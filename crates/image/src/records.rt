@@ -24,7 +24,7 @@ fn word_fits(w: u32) -> bool
     registers & (w / 0x100_0000 == 16) & is_operation(number) & !is_compare(number)
 }
 
-// What a pass over all records finds: that each holds, and whether none is a short form.
+// What a pass over all records finds: that each holds, and whether none is a short form. Two facts of one pass, either of them known without the other.
 #[derive(Clone, Copy)]
 struct Scan {
     hold: bool,

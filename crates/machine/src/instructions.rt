@@ -49,6 +49,7 @@ fn steady_steps(
     let mut k: u32 = 0;
     let mut next = next_after(image, at, s.from);
     let mut after = next;
+    // No `for`: the turn ends at one of four tests, of which the count is one.
     loop {
         let i = read_record(image, at + 8 * k as usize, next);
         let done = execute_instruction(base, window, base2, window2, registers, ranges, i);

@@ -60,6 +60,7 @@ fn run_by_reference(
     let mut best = first_source(requests, registers.core[ICR], n);
     let mut last = Event::Instruction;
     let mut left = n;
+    // No `for`: a turn makes one step or many.
     while left != 0 {
         if taken(registers.core[ICR], best.level) {
             let ending = passed_on(interrupt(

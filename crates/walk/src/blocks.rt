@@ -92,6 +92,7 @@ pub fn go_on(image: &[u8], w: Walk, out: &mut [u8; 65536]) -> Walk
     let mut requests = w.requests;
     let mut made = w.made;
     let mut at: usize = 0;
+    // No `for`: `made` goes on from block to block, and what a call begins with may lie past STEPS.
     while made < STEPS {
         if FULL < at {
             return Walk {
