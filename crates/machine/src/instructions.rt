@@ -1,4 +1,4 @@
-// Instructions of an accepted machine, between interrupts, over the register arrays by reference.
+// Instructions of an accepted machine, between interrupts, over the registers by reference.
 
 ghost use Rattle.std.specs.Prelude.{◌≡◌, ◌<◌, Ok};
 ghost use Rattle.memory.specs.Memory.{lent};

@@ -1,4 +1,4 @@
-// Steps of an accepted machine, over the register arrays by reference.
+// Steps of an accepted machine, over the registers by reference.
 
 ghost use Rattle.std.specs.Prelude.{◌≡◌, Ok};
 ghost use Rattle.memory.specs.Memory.{lent};

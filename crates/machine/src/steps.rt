@@ -1,4 +1,4 @@
-// A step and a run: by value outside, over the register arrays by reference inside. The rules 1, 13 and 2 to 4 are tried once, before the first step.
+// A step and a run: by value outside, over the registers by reference inside. The rules 1, 13 and 2 to 4 are tried once, before the first step.
 
 ghost use Rattle.std.specs.Prelude.{◌≡◌, true};
 ghost use Rattle.words.specs.Exactly.{Exactly};
