@@ -33,9 +33,9 @@ pub told_same : (x y : Control) (t : Bool) → t ≡ (eqb x.icr y.icr && (eqb x.
 unfolding is_same
 told_same x y t e = ap done_by e
 
-all_same : (x : Control) → is_same x x ≡ true
+pub all_same : (x y : Control) → x.icr ≡ y.icr → x.syscon ≡ y.syscon → x.prs ≡ y.prs → is_same x y ≡ true
 unfolding is_same
-all_same x = rw (eq-eqb x.icr x.icr refl, eq-eqb x.syscon x.syscon refl, eq-eqb x.prs x.prs refl) refl
+all_same x y e f g = rw (eq-eqb _ _ e, eq-eqb _ _ f, eq-eqb _ _ g) refl
 
 pub same_control : (x y : Control) → is_same x y ≡ true → y ≡ x
 unfolding is_same
@@ -48,7 +48,7 @@ same_control x y e =
 module _ {r q : Registers} (s : Steady r q) where
   done_is : how.Done ≡ done_of r q
   unfolding done_of
-  done_is = rw (s.same, all_same (control_of r.core)) refl
+  done_is = rw (s.same, all_same (control_of r.core) (control_of r.core) refl refl refl) refl
 
   pub done_ended : ended how.Done q ≡ ended (done_of r q) q
   done_ended = ap (λ h. ended h q) done_is

@@ -1,3 +1,4 @@
 -- Laws of areas.
 pub mod Places
 pub mod Parts
+pub mod Accesses

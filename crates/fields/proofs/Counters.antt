@@ -9,7 +9,7 @@ use mathlib.Core.Bool.{Bool, true, false}
 use mathlib.Core.Logic.{⊎_elim}
 use lib.Dec.{ltb}
 use lib.Pow.{mod-pow-add, pow_pos, pow_mono}
-use borrow.Author.Tests.{eq-eqb, ne_eqb, ltb-true}
+use borrow.Author.Tests.{eq-eqb, ne_eqb, ltb-true, eqb-true}
 use Rattle.words.proofs.Integers.{lt_or_ge}
 use Rattle.words.proofs.Truth.{both_true}
 use Rattle.words.specs.Bits.{bit, number}
@@ -59,3 +59,8 @@ below psw h = let t = both_true (is_set 7 psw) (ltb (psw_cdc psw) 0x7F) h in let
 pub room : (psw : ℕ) (t : Bool) → t ≡ counts psw → psw % 0x80 + number t < 0x80
 room psw true e = let h = below psw (sym e) in omega arith
 room psw false e = omega arith
+
+-- what counts has CDE 1
+pub cde : (psw : ℕ) → counts psw ≡ true → psw / 0x80 % 2 ≡ 1
+unfolding counts is_set bit
+cde psw h = let t = both_true (is_set 7 psw) (ltb (psw_cdc psw) 0x7F) h in eqb-true (psw / 0x80 % 2) 1 t.0

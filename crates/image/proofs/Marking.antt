@@ -72,7 +72,7 @@ module _ (img : List ℕ) (shift : ℕ) (marks : List ℕ) where
   image_more i now after n a = rw (add-one i, ← n) a
 
 -- the first shift of a range that serves, or the range's end
-shift_found : (n shift bytes : ℕ) → unwrap_or (find (λ s. ltb (bytes / 2 / 2 ^ s) 4080) (range_with_len shift n)) (shift + n) ≡ shift_from n shift bytes
+pub shift_found : (n shift bytes : ℕ) → unwrap_or (find (λ s. ltb (bytes / 2 / 2 ^ s) 4080) (range_with_len shift n)) (shift + n) ≡ shift_from n shift bytes
 unfolding shift_from
 shift_found zero shift bytes = add-zero shift
 shift_found (suc n) shift bytes = by (ltb (bytes / 2 / 2 ^ shift) 4080) (shift_found n (shift + 1) bytes)

@@ -72,7 +72,7 @@ module _ (img : List ℕ) where
     pub scanned_fault : k < total_of img → record_at img (bodies_of img + 8 * k) ≡ false → Err (Record k) ≡ records_from (total_of img) img (bodies_of img) 0
     scanned_fault h t = turn_fault img (bodies_of img + 8 * k) k refl h t ∙ c.check
 
-    scanned_on : k < total_of img → record_at img (bodies_of img + 8 * k) ≡ true → Scanned img (k + 1) (long && not (is_short (get_or img (bodies_of img + 8 * k) 0)))
+    pub scanned_on : k < total_of img → record_at img (bodies_of img + 8 * k) ≡ true → Scanned img (k + 1) (long && not (is_short (get_or img (bodies_of img + 8 * k) 0)))
     scanned_on h t =
         let y : bodies_of img + 8 * (k + 1) ≡ bodies_of img + 8 * k + 8 = omega arith in
         record { check = rw y (turn_on img (bodies_of img + 8 * k) k refl h t) ∙ c.check; long_is = pass_on img long k h ∙ c.long_is }

@@ -23,20 +23,20 @@ module _ (s t : List ℕ) where
   second_next : (k d : ℕ) → get_or (s ++ t) (length s + k + d) 0 ≡ get_or t (k + d) 0
   second_next k d = ap (λ (i : ℕ). get_or (s ++ t) i 0) (add_assoc (length s) k d) ∙ get_or-append-add s t (k + d) 0
 
-  first_word : (i : ℕ) → i + 4 ≤ length s → word_at s i ≡ word_at (s ++ t) i
+  pub first_word : (i : ℕ) → i + 4 ≤ length s → word_at s i ≡ word_at (s ++ t) i
   unfolding word_at
   first_word i h =
       omega (arith, first_byte i (omega arith), first_byte (i + 1) (omega arith), first_byte (i + 2) (omega arith), first_byte (i + 3) (omega arith))
 
-  second_word : (k : ℕ) → word_at t k ≡ word_at (s ++ t) (length s + k)
+  pub second_word : (k : ℕ) → word_at t k ≡ word_at (s ++ t) (length s + k)
   unfolding word_at
   second_word k = omega (arith, get_or-append-add s t k 0, second_next k 1, second_next k 2, second_next k 3)
 
-  first_half : (i : ℕ) → i + 2 ≤ length s → half_at s i ≡ half_at (s ++ t) i
+  pub first_half : (i : ℕ) → i + 2 ≤ length s → half_at s i ≡ half_at (s ++ t) i
   unfolding half_at
   first_half i h = omega (arith, first_byte i (omega arith), first_byte (i + 1) (omega arith))
 
-  second_half : (k : ℕ) → half_at t k ≡ half_at (s ++ t) (length s + k)
+  pub second_half : (k : ℕ) → half_at t k ≡ half_at (s ++ t) (length s + k)
   unfolding half_at
   second_half k = omega (arith, get_or-append-add s t k 0, second_next k 1)
 
