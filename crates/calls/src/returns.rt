@@ -65,8 +65,8 @@ pub fn ret(
     }
 }
 
-// Not inlined: with it in the run's loop, loops without a return come out longer.
-#[inline(never)]
+// Inlined: every steady instruction's last write is then seen where the run's loop reads PC, which stays in a register.
+#[inline(always)]
 pub fn rfe(
     base: Address,
     window: &mut [u8],

@@ -103,7 +103,7 @@ fn run_by_reference(
     }
 }
 
-// The same. The registers are copied: the loop then works on variables that nothing else that is lent can overlap.
+// The same. The registers are copied: the loop then works on variables that nothing else that is lent can overlap. Array by array, since the whole at once would be a call of memcpy, and the library asks a host for memset alone.
 pub fn run_steps(
     base: Address,
     window: &mut [u8],
@@ -121,10 +121,16 @@ pub fn run_steps(
     requires guides { Guides image.now guide marks.now }
     ensures { ran (outcome_of result.ending) result.made registers.new requests.new (lent base window.new base2 window2.new) ≡ run_from n image.now ranges.now (Ok event.Instruction) 0 registers.old requests.old (lent base window.old base2 window2.old) }
 {
-    let mut own = *registers;
+    let mut own = Registers {
+        d: registers.d,
+        a: registers.a,
+        core: registers.core,
+    };
     let w = run_by_reference(
         base, window, base2, window2, image, guide, marks, &mut own, requests, ranges, n,
     );
-    *registers = own;
+    registers.d = own.d;
+    registers.a = own.a;
+    registers.core = own.core;
     w
 }

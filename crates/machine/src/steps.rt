@@ -30,14 +30,14 @@ fn step_accepted(
     long: bool,
     mut registers: Registers,
     mut requests: [u32; 16],
-    ranges: [Range; 32],
+    ranges: &[Range; 32],
 ) -> Stepped
     requires ready { Ready image.now registers (lent base window.old base2 window2.old) }
     requires all_long { long ≡ true → long_only image.now ≡ true }
-    ensures { stepped result.outcome result.registers result.requests (lent base window.new base2 window2.new) result.permits ≡ step_of image.now registers requests ranges (lent base window.old base2 window2.old) }
+    ensures { stepped result.outcome result.registers result.requests (lent base window.new base2 window2.new) result.permits ≡ step_of image.now registers requests ranges.now (lent base window.old base2 window2.old) }
 {
     let none = [0; 1];
-    let permits = permits_of(image, long, &registers, &requests, &ranges);
+    let permits = permits_of(image, long, &registers, &requests, ranges);
     let w = run_steps(
         base,
         window,
@@ -48,7 +48,7 @@ fn step_accepted(
         &none,
         &mut registers,
         &mut requests,
-        &ranges,
+        ranges,
         1,
     );
     Stepped {
@@ -84,7 +84,7 @@ pub fn step(
             },
         },
         Ok(long) => step_accepted(
-            base, window, base2, window2, image, long, registers, requests, ranges,
+            base, window, base2, window2, image, long, registers, requests, &ranges,
         ),
     }
 }
