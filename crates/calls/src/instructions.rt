@@ -34,7 +34,7 @@ fn is_bisr(op: Context) -> bool
     matches!(op, Context::Bisr)
 }
 
-// CALL and CALLI have one call between them, and so have SVLCX and BISR: a function with one caller is compiled into it.
+// CALL and CALLI have one call between them, and so have SVLCX and BISR: a function with one caller is compiled into it. What is passed on stays in registers.
 pub fn execute_context(
     base: Address,
     window: &mut [u8],
@@ -52,9 +52,9 @@ pub fn execute_context(
             let to = target(registers, op, i);
             passed_on(call(base, window, base2, window2, registers, to, i.next))
         }
-        Context::Ret => ret(base, window, base2, window2, registers),
+        Context::Ret => passed_on(ret(base, window, base2, window2, registers)),
         Context::Rfe => rfe(base, window, base2, window2, registers),
-        Context::Svlcx | Context::Bisr => save_lower_half(
+        Context::Svlcx | Context::Bisr => passed_on(save_lower_half(
             base,
             window,
             base2,
@@ -63,8 +63,8 @@ pub fn execute_context(
             is_bisr(op),
             i.imm,
             i.next,
-        ),
-        Context::Rslcx => rslcx(base, window, base2, window2, registers, i.next),
+        )),
+        Context::Rslcx => passed_on(rslcx(base, window, base2, window2, registers, i.next)),
         Context::Syscall => How::TrapAfter(system_call(i.imm)),
     }
 }

@@ -65,8 +65,8 @@ pub fn ret(
     }
 }
 
-// Inlined: every steady instruction's last write is then seen where the run's loop reads PC, which stays in a register.
-#[inline(always)]
+// Not inlined: with it in the run's loop, loops without a return come out longer.
+#[inline(never)]
 pub fn rfe(
     base: Address,
     window: &mut [u8],
